@@ -8,7 +8,7 @@ of its greatest size over that of a tenth of it. Where one gives more than 2, th
 
 import sys
 
-from running import Machine, ratio_of
+from measuring import Machine, engines, ratio_of
 
 LIMIT = 2.0
 TEXT = "var t = 'x'; while (t.length < {n}) {{ t = t + t; }} t = t.slice(0, {n}); "
@@ -38,14 +38,16 @@ SCRIPTS = [
 
 
 def main():
-    machine, worst = Machine(), 0.0
+    machine, others, worst = Machine(), engines(["node"]), 0.0
     print(f"{'script':24}{'size':>8}{'ns a unit':>11}{'MB':>6}{'times node':>12}")
     for name, text, sizes, power in SCRIPTS:
         costs = []
         for n in sizes:
-            seconds, megabytes, _, times = machine.run(name, n, text.format(n=n))
+            script = text.format(n=n)
+            seconds, megabytes, printed, _ = machine.run(name, script)
+            times = "".join(f"{it.times(script, seconds, printed):>12}" for it in others)
             costs.append(1e9 * seconds / n ** power)
-            print(f"{name:24}{n:8}{costs[-1]:11.0f}{megabytes:6}{times:>12}", flush=True)
+            print(f"{name:24}{n:8}{costs[-1]:11.0f}{megabytes:6}{times}", flush=True)
         worst = max(worst, ratio_of(name, costs, 19))
     return 1 if worst > LIMIT else 0
 

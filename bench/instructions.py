@@ -14,7 +14,7 @@ import re
 import subprocess
 import sys
 
-from running import PROGRAM
+from measuring import PROGRAM
 
 COUNTED = ["valgrind", "--tool=cachegrind", "--cache-sim=no", "--cachegrind-out-file=/dev/null"]
 # the script, and its n

@@ -11,11 +11,10 @@ printed alone."""
 import os
 import sys
 
-from running import PROGRAM, least
+from measuring import BUDGET, PROGRAM, least
 
 LIMIT = 1.2
 SIZES = (1000, 10000, 100000)
-BUDGET = ["--budget", "1000000000"]
 # command, name, script of that number, whether it is judged
 SCRIPTS = [
     ("objects", "object literals", lambda n: f"for (var i = 0; i < {n}; i++) {{ ({{}}); }}", True),
@@ -30,14 +29,14 @@ SCRIPTS = [
 
 def seconds(command, text, empty, n):
     """The least of several runs, of more of them where each is short."""
-    runs = [least([PROGRAM, command, *BUDGET], text)[0] for _ in range(max(5, SIZES[-1] // n // 5))]
+    runs = [least([PROGRAM, command, *BUDGET], text).seconds for _ in range(max(5, SIZES[-1] // n // 5))]
     return max(min(runs) - empty, 1e-6)
 
 
 def main():
     if not os.path.exists(PROGRAM):
         sys.exit("no " + PROGRAM + ": build it first")
-    empty = {c: least([PROGRAM, c, *BUDGET], "")[0] for c in ("run", "objects", "cover")}
+    empty = {c: least([PROGRAM, c, *BUDGET], "").seconds for c in ("run", "objects", "cover")}
     worst = 0.0
     print(f"{'command':9}{'script':32}{'number':>8}{'ns each':>10}{'times run':>11}")
     for command, name, script, judged in SCRIPTS:

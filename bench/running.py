@@ -1,23 +1,31 @@
 #!/usr/bin/env python3
-"""What the machine takes to run a script: nanoseconds of the processor for a step, and the memory at the most, for scripts
-of three sizes each; and beside it how many times as long as node that is, where node is there.
+"""What the machine takes to run a script, and what its woven form takes beside it.
 
-Run it at the top of the repository after `./jlint check < examples/closures.js`. A script runs by `run` with the greatest
-budget. The time of an empty script is taken off first. A script is judged by the
-cost of a step at its greatest size over that at a tenth of it: what is linear gives about 1, what is quadratic about 10.
-Where one gives more than 2, the exit status is 1. A join copies both texts, so that of joins is above it."""
+usage: bench/running.py [PROGRAM]      JLINT names the program, or the argument, or else the one of this clone is taken
 
-import os
-import resource
+Scripts run with the greatest budget,
+and the time of an empty script is taken off. Three tables are printed:
+
+1.  For each script, at three sizes, nanoseconds of the processor for a step of `run` and the memory at the most, and how
+    many times as long as node, mujs and duktape it takes, where these are there and run the script. A script is judged
+    by the cost of a step at its greatest size over that at a tenth of it: what is linear gives about 1, what is
+    quadratic about 10, and the limit is 2. A join copies both texts, so that of joins is above it.
+2.  For each script the instructions of a step of `run`, as bench/instructions.py counts them where valgrind is there;
+    how many steps of the woven script `lint` takes for one of the script, at most 3.4; and how many times as long a
+    woven step of `lint` takes as a step of `run`, at most 2.
+3.  Where a script has twice as many steps, calls, objects, arrays, properties or statements, how many times as long it
+    takes: the mean of five doublings, at most 2.3.
+
+Where one is above its limit, it says so, and the exit status is 1."""
+
 import shutil
-import subprocess
 import sys
-import tempfile
 
-PROGRAM = os.path.join("crates", "jlint", "out", "jlint")
-RUN = [PROGRAM, "run", "--budget", "1000000000"]
-LIMIT = 2.0
-PRELUDE = "var print = function () { console.log([].slice.call(arguments).join(' ')); };\n"
+import instructions
+from measuring import Machine, engines, ratio_of
+
+LIMIT, WOVEN_STEPS, WOVEN_TIME, DOUBLING = 2.0, 3.4, 2.0, 2.3
+BESIDE = ["node", "mujs", "duktape"]
 SCRIPTS = [
     ("turns of a loop", "var n = {n}; while (n--) {{ }} print(n);", (10000, 100000, 1000000)),
     ("sums in a loop", "var s = 0; for (var i = 0; i < {n}; i++) {{ s = s + i % 7; }} print(s);", (1000, 10000, 100000)),
@@ -32,75 +40,82 @@ SCRIPTS = [
     ("throws that are caught", "var s = 0; for (var i = 0; i < {n}; i++) {{ try {{ throw i; }} catch (e) {{ s = s + e; }} }} "
      "print(s);", (600, 6000, 60000)),
 ]
+# so many iterations, and twice as many, are counted instruction by instruction
+COUNTED = 300
+DOUBLINGS = 5
+# what there is more of, the script, and the number of it to begin with
+GROWING = [
+    ("steps", lambda n: f"var n = {n}; while (n--) {{ }}", 40000),
+    ("calls", lambda n: f"function f(n) {{ return n; }} for (var i = 0; i < {n}; i++) {{ f(i); }}", 8000),
+    ("objects", lambda n: f"var o = null; for (var i = 0; i < {n}; i++) {{ o = {{p: i, q: o}}; }}", 8000),
+    ("arrays", lambda n: f"var a = []; for (var i = 0; i < {n}; i++) {{ a[i] = [i]; }}", 4000),
+    ("properties", lambda n: f"var o = {{}}; for (var i = 0; i < {n}; i++) {{ o['p' + i] = i; }}", 8000),
+    ("statements", lambda n: "var x = 0;\n" + "x = x + 1;\n" * n, 2000),
+]
 
 
-def deep_stack():
-    """Lets node use the stack that it is told of."""
-    hard = resource.getrlimit(resource.RLIMIT_STACK)[1]
-    resource.setrlimit(resource.RLIMIT_STACK, (hard, hard))
+def judged(value, limit, width=8):
+    """A value as it is printed, with a word where it is above its limit."""
+    return f"{value:{width}.2f}" + ("  above the limit" if value > limit else "")
 
 
-def once(command, text, prepare):
-    """The processor time of a run in seconds, its memory at the most in MB, and its output."""
-    with tempfile.TemporaryFile() as script, tempfile.TemporaryFile() as out:
-        script.write(text.encode())
-        script.seek(0)
-        child = subprocess.Popen(command, stdin=script, stdout=out, preexec_fn=prepare)
-        usage = os.wait4(child.pid, 0)[2]
-        child.returncode = 0
-        out.seek(0)
-        return usage.ru_utime + usage.ru_stime, usage.ru_maxrss // 1024, out.read().decode()
-
-
-def least(command, text, prepare=None):
-    """The one of three runs that took least."""
-    return min(once(command, text, prepare) for _ in range(3))
-
-
-class Machine:
-    """The program beside node, where node is there, and what each takes for a script that does nothing."""
-
-    def __init__(self):
-        if not os.path.exists(PROGRAM):
-            sys.exit("no " + PROGRAM + ": build it first")
-        self.node = shutil.which("node")
-        self.empty = least(RUN, "")[0]
-        self.bare = least([self.node, "-"], PRELUDE)[0] if self.node else 0.0
-
-    def run(self, name, n, script):
-        """The seconds that a script takes, the megabytes at the most, its steps, and how many times as long as node."""
-        spent, megabytes, answer = least(RUN, script)
-        printed, _, end = answer.rstrip("\n").rpartition("\n")
-        if not end.startswith("jlint: normal steps="):
-            sys.exit(f"{name}, {n}: {end}")
-        times = "-"
-        if self.node:
-            other, _, due = least([self.node, "--stack-size=60000", "-"], PRELUDE + script, deep_stack)
-            if printed != due.rstrip("\n"):
-                sys.exit(f"{name}, {n}: node prints {due!r}")
-            times = f"{(spent - self.empty) / max(other - self.bare, 1e-3):.1f}"
-        return max(spent - self.empty, 0.0), megabytes, int(end.split("=")[1]), times
-
-
-def ratio_of(name, costs, width):
-    """The cost at the greatest size over that of a tenth of it, which is printed. The smallest run is over before a clock
-    tells much of it."""
-    ratio = costs[-1] / costs[-2] if costs[-2] else 0.0
-    print(f"{name:24}{'ratio of the last two':>{width}}{ratio:7.2f}", flush=True)
-    return ratio
-
-
-def main():
-    machine, worst = Machine(), 0.0
-    print(f"{'script':24}{'size':>8}{'steps':>9}{'ns a step':>11}{'MB':>6}{'times node':>12}")
+def step_costs(machine):
+    """Prints the first table, and answers whether all is within the limit."""
+    others, right = engines(BESIDE), True
+    heads = "".join(f"{'times ' + it.name:>15}" for it in others)
+    print(f"{'script':24}{'size':>8}{'steps':>9}{'ns a step':>11}{'MB':>6}{heads}")
     for name, text, sizes in SCRIPTS:
         costs = []
         for n in sizes:
-            seconds, megabytes, steps, times = machine.run(name, n, text.format(n=n))
+            script = text.format(n=n)
+            seconds, megabytes, printed, steps = machine.run(name, script)
             costs.append(1e9 * seconds / steps)
-            print(f"{name:24}{n:8}{steps:9}{costs[-1]:11.0f}{megabytes:6}{times:>12}", flush=True)
-        worst = max(worst, ratio_of(name, costs, 23))
-    return 1 if worst > LIMIT else 0
+            times = "".join(f"{it.times(script, seconds, printed):>15}" for it in others)
+            print(f"{name:24}{n:8}{steps:9}{costs[-1]:11.0f}{megabytes:6}{times}", flush=True)
+        right = ratio_of(name, costs, 23) <= LIMIT and right
+    return right
+
+
+def instructions_of(machine, text):
+    """The instructions of a step of a script, as they are printed."""
+    if shutil.which("valgrind") is None:
+        return "-"
+    return f"{instructions.of_a_step(machine.command[0], text, COUNTED):.0f}"
+
+
+def woven_costs(machine):
+    """Prints the second table, and answers whether all is within the limits."""
+    linter, right = Machine("lint"), True
+    print(f"\n{'script':24}{'instructions a step':>21}{'own steps':>11}{'woven':>10}{'ratio':>8}"
+          f"{'ns a step':>11}{'woven':>8}{'ratio':>8}")
+    for name, text, sizes in SCRIPTS:
+        script = text.format(n=sizes[-1])
+        seconds, _, _, own = machine.run(name, script)
+        longer, _, _, woven = linter.run(name, script)
+        plain, beside = 1e9 * seconds / own, 1e9 * longer / woven
+        right = woven <= WOVEN_STEPS * own and beside <= WOVEN_TIME * plain and right
+        print(f"{name:24}{instructions_of(machine, text):>21}{own:11}{woven:10}{judged(woven / own, WOVEN_STEPS)}"
+              f"{plain:11.0f}{beside:8.0f}{judged(beside / plain, WOVEN_TIME)}", flush=True)
+    return right
+
+
+def growths(machine):
+    """Prints the third table, and answers whether all is within the limit."""
+    right = True
+    print(f"\n{'milliseconds of so many':24}" + "".join(f"{f'times {2 ** it}':>10}" for it in range(DOUBLINGS + 1))
+          + "  ratio of doubling")
+    for name, script, first in GROWING:
+        found = [machine.run(name, script(first * 2 ** it))[0] for it in range(DOUBLINGS + 1)]
+        ratio = (found[-1] / max(found[0], 1e-3)) ** (1 / DOUBLINGS)
+        right = right and ratio <= DOUBLING
+        print(f"{f'{first} {name}':24}" + "".join(f"{1e3 * it:10.0f}" for it in found) + judged(ratio, DOUBLING, 10),
+              flush=True)
+    return right
+
+
+def main():
+    machine = Machine()
+    return 0 if all([step_costs(machine), woven_costs(machine), growths(machine)]) else 1
 
 
 if __name__ == "__main__":

@@ -3,16 +3,15 @@
 to 2^19, with texts and parts that differ late or repeat themselves; and how many times as much a search takes where n is
 twice as great.
 
-Run it at the top of the repository after `./jlint check < examples/closures.js`. JLINT names the program, or the argument,
-or else the one of this clone is taken. A script makes as many searches as go over 2^22 units together, and what the same
-script takes without a search is taken off. A search is judged by the mean ratio of doubling, from the smallest n to the
-greatest: what is linear gives about 2, what is quadratic about 4. Where one gives more than 2.2 or a script takes longer
-than a minute, the exit status is 1."""
+usage: bench/searching.py [PROGRAM]      JLINT names the program, or the argument, or else the one of this clone is taken
 
-import os
+A script makes as many searches as go over 2^22 units together, and what the same script takes without a search is taken
+off. A search is judged by the mean ratio of doubling, from the smallest n to the greatest: what is linear gives about 2,
+what is quadratic about 4. Where one gives more than 2.2 or a script takes longer than a minute, the exit status is 1."""
+
 import sys
 
-import running
+from measuring import BUDGET, least, named_program
 
 LIMIT = 2.2
 SIZES = [2 ** power for power in range(15, 20)]
@@ -43,22 +42,14 @@ print(t.length, p.length, found);
 """
 
 
-def program():
-    """The program that is named, or that of this clone."""
-    place = sys.argv[1] if len(sys.argv) > 1 else os.environ.get("JLINT", running.PROGRAM)
-    if not os.path.exists(place):
-        sys.exit("no " + place + ": build it first")
-    return [place, "run", "--budget", "1000000000"]
-
-
 def seconds(command, n, turns, form, call):
     """What a script takes that makes so many searches. Each of them finds nothing, so that their sum is known."""
     _, text, part = form
-    spent, _, answer = running.least(command, SCRIPT.format(n=n, turns=turns, text=text, part=part, call=call[1]))
+    ran = least(command, SCRIPT.format(n=n, turns=turns, text=text, part=part, call=call[1]))
     due = f"{2 * n} {n} {turns if call[0] == 'split' else -turns}"
-    if answer.split("\n", 1)[0] != due:
-        sys.exit(f"{call[0]}, {form[0]}, {n}: {answer} in place of {due}")
-    return spent
+    if ran.output.split("\n", 1)[0] != due:
+        sys.exit(f"{call[0]}, {form[0]}, {n}: {ran.output} in place of {due}")
+    return ran.seconds
 
 
 def costs(command, form, call):
@@ -74,7 +65,7 @@ def costs(command, form, call):
 
 
 def main():
-    command, worst = program(), 0.0
+    command, worst = [named_program(), "run", *BUDGET], 0.0
     print(f"{'milliseconds of a search':37}" + "".join(f"{n:>9}" for n in SIZES) + "  ratio of doubling")
     for call in CALLS:
         for form in FORMS:

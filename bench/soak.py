@@ -2,11 +2,12 @@
 """What `soak` takes: milliseconds of the processor for scripts of 1,000 to 8,000 functions, how these grow, how many steps
 of the rewritten script there are for one of the script, and how many times as long as node the greatest takes.
 
-Run it at the top of the repository after `./jlint check < examples/closures.js`. The time of a script without functions
-is taken off first. node runs the text that `instrument` writes of the same script, with hooks that give their values
-(`bench/plain_hooks.js`); it is told with its start and without. The exit status is 1 where a function costs over 10
-percent more or less than in a script of half the size, where there are more than 3.3 steps for one, or where node's time
-is less than a third."""
+usage: bench/soak.py [PROGRAM]      JLINT names the program, or the argument, or else the one of this clone is taken
+
+The time of a script without functions is taken off first. node runs the text that `instrument` writes of the same script,
+with hooks that give their values (`bench/plain_hooks.js`); it is told with its start and without. The exit status is 1
+where a function costs over 10 percent more or less than in a script of half the size, where there are more than 3.3 steps
+for one, or where node's time is less than a third."""
 
 import json
 import os
@@ -15,10 +16,9 @@ import subprocess
 import sys
 import tempfile
 
-from running import least
+from measuring import least, named_program
 
 TOP = os.path.dirname(os.path.dirname(os.path.abspath(__file__)))
-PROGRAM = os.path.join(TOP, "crates", "jlint", "out", "jlint")
 HOOKS = os.path.join(TOP, "bench", "plain_hooks.js")
 SIZES = (1000, 2000, 4000, 8000)
 SPREAD, STEPS, TIMES = 0.1, 3.3, 3.0
@@ -33,17 +33,17 @@ def script_of(number):
     return "\n".join([*lines, "print(total);", ""])
 
 
-def soaked(number):
+def soaked(program, number):
     """The processor time of a soak in seconds, its memory at the most in MB, its steps, and the line that it prints."""
-    spent, megabytes, answer = least([PROGRAM, "soak", "--number", str(number)], "")
-    printed, _, end = answer.rstrip("\n").rpartition("\n")
+    ran = least([program, "soak", "--number", str(number)], "")
+    printed, _, end = ran.output.rstrip("\n").rpartition("\n")
     if not end.startswith("jlint: normal steps="):
-        sys.exit(f"soak of {number}: {answer!r}")
-    return spent, megabytes, int(end.split("steps=")[1].split()[0]), printed
+        sys.exit(f"soak of {number}: {ran.output!r}")
+    return ran.seconds, ran.kilobytes // 1024, int(end.split("steps=")[1].split()[0]), printed
 
 
-def answer_to(command, script):
-    return subprocess.run([PROGRAM, command], input=script, stdout=subprocess.PIPE, text=True, check=False).stdout
+def answer_to(program, command, script):
+    return subprocess.run([program, command], input=script, stdout=subprocess.PIPE, text=True, check=False).stdout
 
 
 def node_time(node, text, printed):
@@ -51,21 +51,19 @@ def node_time(node, text, printed):
     with tempfile.NamedTemporaryFile("w", suffix=".js") as file:
         file.write(text)
         file.flush()
-        spent, _, answer = least([node, HOOKS, file.name], "")
+        ran = least([node, HOOKS, file.name], "")
     due = {"output": printed.splitlines(), "end": "normal"}
-    if json.loads(answer) != due:
-        sys.exit(f"node gives {answer!r}, where {due} is due")
-    return spent
+    if json.loads(ran.output) != due:
+        sys.exit(f"node gives {ran.output!r}, where {due} is due")
+    return ran.seconds
 
 
 def main():
-    if not os.path.exists(PROGRAM):
-        sys.exit("no " + PROGRAM + ": run ./jlint first")
-    is_right = True
-    empty, before = soaked(0)[0], None
+    program, is_right = named_program(), True
+    empty, before = soaked(program, 0)[0], None
     print(f"{'functions':>10}{'steps':>9}{'ms':>8}{'us a function':>15}{'MB':>6}{'to half the size':>18}")
     for number in SIZES:
-        spent, megabytes, steps, printed = soaked(number)
+        spent, megabytes, steps, printed = soaked(program, number)
         cost = (spent - empty) / number
         ratio = cost / before if before else 1.0
         is_right = is_right and abs(ratio - 1) <= SPREAD
@@ -73,15 +71,15 @@ def main():
         print(f"{number:10}{steps:9}{1e3 * spent:8.0f}{1e6 * cost:15.1f}{megabytes:6}{told:>18}", flush=True)
         before = cost
     script = script_of(number)
-    own = int(answer_to("run", script).rpartition("steps=")[2])
+    own = int(answer_to(program, "run", script).rpartition("steps=")[2])
     is_right = is_right and steps <= STEPS * own
     print(f"{steps / own:.2f} steps of the rewritten script for one of the script, of {own} (at most {STEPS})")
     node = shutil.which("node")
     if node is None:
         print("node is missing: nothing is compared")
         return 0 if is_right else 1
-    other = node_time(node, answer_to("instrument", script), printed)
-    bare = node_time(node, answer_to("instrument", ""), "")
+    other = node_time(node, answer_to(program, "instrument", script), printed)
+    bare = node_time(node, answer_to(program, "instrument", ""), "")
     is_right = is_right and spent <= TIMES * other
     print(f"{spent / other:.1f} times node's {1e3 * other:.0f} ms (at most {TIMES:.0f})")
     print(f"{(spent - empty) / max(other - bare, 1e-3):.1f} times node's {1e3 * (other - bare):.0f} ms without starts")
