@@ -96,8 +96,8 @@ def rename_places(crate, old, new):
     for at, folders, files in os.walk(os.path.join(TOP, "crates", crate), topdown=False):
         if "/out" in at:
             continue
-        for name, other in [(old, new)] if "/proofs" in at and old in folders else []:
-            os.rename(os.path.join(at, name), os.path.join(at, other))
+        if "/proofs" in at and old in folders:
+            os.rename(os.path.join(at, old), os.path.join(at, new))
         if f"{old}.antt" in files:
             os.rename(os.path.join(at, f"{old}.antt"), os.path.join(at, f"{new}.antt"))
 
