@@ -9,15 +9,13 @@ use Rattle.jl_meaning.specs.Conversions.{integer_of, number_hint, string_hint, t
 use Rattle.jl_meaning.specs.Conversions.{to_string, to_uint32}
 use Rattle.jl_meaning.specs.Parts.{give, gives, ◌>>=◌, Algorithm}
 use Rattle.jl_meaning.specs.Store.{Store}
-use Rattle.jl_meaning.specs.builtins.Arguments.{give_string, unless_undefined}
+use Rattle.jl_meaning.specs.builtins.Arguments.{argument_at, give_string, unless_undefined}
 use Rattle.jl_meaning.specs.builtins.Elements.{to_end}
-use Rattle.jl_meaning.specs.builtins.String.{unit_at_position}
+use Rattle.jl_meaning.specs.builtins.String.{string_split, unit_at_position}
 use Rattle.jl_meaning.specs.forms.Literals.{new_array}
-use Rattle.jl_progress.specs.Strings.{argument_at, method_of_string, place_of_part, split_up_to, string_after}
-use Rattle.jl_progress.specs.Strings.{unit_given, units_cut}
+use Rattle.jl_progress.specs.Strings.{place_of_part, split_up_to, string_after, unit_given, units_cut}
 use Rattle.jl_progress.specs.declared.string.Cut.{Cut}
 use Rattle.jl_progress.specs.declared.string.Search.{Search}
-use Rattle.jl_progress.specs.declared.string.StringMethod.TheVariants as method
 use Rattle.jl_progress.specs.declared.string.StringProgress.TheVariants as progress
 use Rattle.jl_progress.specs.declared.string.UnitForm.{UnitForm}
 use Rattle.jl_store.specs.Comes.{Comes}
@@ -25,12 +23,13 @@ use Rattle.jl_state.specs.Rest.{Works}
 use Rattle.jl_state.specs.declared.act.Act.{Act}
 use Rattle.jl_state.specs.declared.state.State.{State}
 use Rattle.jl_state.proofs.Stores.{works_comes}
+use Rattle.jl_lib_text.specs.inner.Methods.{part_of_string, place_in_string, unit_of_string}
 use Rattle.jl_builtin.proofs.Conversions.{as_integer, as_string, missing, there}
 
 module _ (s t : State) (a : Act) (units : List ℕ) (args : List Value) where
   pub position_waits : (form : UnitForm) (v : Value) → v ≡ argument_at args 0
       → Works s (to_primitive number_hint v >>= string_after (progress.Position form units)) t a
-      → Works s (method_of_string (method.Unit form) units args) t a
+      → Works s (unit_of_string form units args) t a
   position_waits form v is leads =
       subst (λ (w : Value). Works s (to_integer w >>= λ z. give (unit_given form (unit_at_position units z))) t a) is
       (as_integer s t a v (string_after (progress.Position form units))
@@ -38,7 +37,7 @@ module _ (s t : State) (a : Act) (units : List ℕ) (args : List Value) where
 
   pub part_waits : (which : Search) (part position : Value) → part ≡ argument_at args 0 → position ≡ argument_at args 1
       → Works s (to_primitive string_hint part >>= string_after (progress.Part which units position)) t a
-      → Works s (method_of_string (method.Search which) units args) t a
+      → Works s (place_in_string which units args) t a
   part_waits which part position part_is position_is leads =
       subst (λ (w : Value). Works s (to_string w >>= found (argument_at args 1)) t a) part_is
       (subst (λ (w : Value). Works s (to_string part >>= found w) t a) position_is
@@ -49,7 +48,7 @@ module _ (s t : State) (a : Act) (units : List ℕ) (args : List Value) where
 
   pub start_waits : (which : Cut) (start end : Value) → start ≡ argument_at args 0 → end ≡ argument_at args 1
       → Works s (to_primitive number_hint start >>= string_after (progress.Start which units end)) t a
-      → Works s (method_of_string (method.Cut which) units args) t a
+      → Works s (part_of_string which units args) t a
   start_waits which start end start_is end_is leads =
       subst (λ (w : Value). Works s (to_integer w >>= ended (argument_at args 1)) t a) start_is
       (subst (λ (w : Value). Works s (to_integer start >>= ended w) t a) end_is
@@ -63,7 +62,7 @@ module _ (s t : State) (a : Act) (units : List ℕ) (args : List Value) where
       → limit ≡ argument_at args 1 → Comes new_array s.store x (Ends (gives array))
       → Works (record s { store = x })
       (unless_undefined 4294967295 to_uint32 limit >>= split_up_to units array separator) t a
-      → Works s (method_of_string method.Split units args) t a
+      → Works s (string_split units args) t a
   splits x array separator limit separator_is limit_is comes leads =
       works_comes s (record s { store = x }) refl new_array array
       (λ made. unless_undefined 4294967295 to_uint32 (argument_at args 1)

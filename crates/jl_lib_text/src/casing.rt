@@ -1,20 +1,25 @@
 //! `toLowerCase` and `toUpperCase` (15.5.4.16, 15.5.4.18).
 ghost use Rattle.std.specs.List.{list_any};
 ghost use Rattle.std.specs.Prelude.{◌≡◌, ◌≤◌, map, IfOk};
-ghost use Rattle.jl_lib_text.specs.inner.Letters.{builtin_of_case, letter_in};
+ghost use Rattle.jl_lib_text.specs.inner.Letters.{letter_in, method_of_case, string_in_case};
 ghost use Rattle.jl_meaning.specs.builtins.String.{is_past_ascii};
-ghost use Rattle.jl_progress.specs.Strings.{units_in_case};
 ghost use Rattle.jl_state.specs.Rank.{rank_act};
 ghost use Rattle.jl_state.specs.Rest.{Works};
 ghost use Rattle.jl_state.specs.declared.state.State.{State as Machine};
 
 use crate::texts::text_of_units;
 use jl_builtin::unsupported;
-use jl_progress::LetterCase;
 use jl_state::Act;
 use jl_text::{List, NoMemory, Text};
-use jl_value::{Builtin, StringBuiltin, Value};
+use jl_value::{Builtin, StringMethod, Value};
 use std::alloc::Global;
+
+/// The case that a string is given in (15.5.4.16, 15.5.4.18).
+#[derive(Clone, Copy)]
+pub(crate) enum LetterCase {
+    Lower,
+    Upper,
+}
 
 const LAST_OF_ASCII: u16 = 127;
 
@@ -47,13 +52,13 @@ fn leaves_ascii(units: &[u16]) -> bool
     units.iter().any(|unit| *unit > LAST_OF_ASCII)
 }
 
-/// The builtin that gives this case.
-fn builtin_of_case(case: LetterCase) -> Builtin
-    ensures { result ≡ builtin_of_case case }
+/// The method that gives this case.
+fn method_of_case(case: LetterCase) -> StringMethod
+    ensures { result ≡ method_of_case case }
 {
     match case {
-        LetterCase::Lower => Builtin::String(StringBuiltin::ToLowerCase),
-        LetterCase::Upper => Builtin::String(StringBuiltin::ToUpperCase),
+        LetterCase::Lower => StringMethod::ToLowerCase,
+        LetterCase::Upper => StringMethod::ToUpperCase,
     }
 }
 
@@ -63,11 +68,11 @@ pub(crate) fn give_in_case<'p>(
     case: LetterCase,
     units: &Text,
 ) -> Result<Act<'p>, NoMemory>
-    ensures leads { IfOk result (λ act. (s : Machine) → Works s (units_in_case case units.now) s act) }
+    ensures leads { IfOk result (λ act. (s : Machine) → Works s (string_in_case case units.now) s act) }
     ensures low { IfOk result (λ act. rank_act act ≤ 2) }
 {
     if leaves_ascii(units.units()) {
-        return Ok(unsupported(builtin_of_case(case)));
+        return Ok(unsupported(Builtin::StringMethod(method_of_case(case))));
     }
     let letters = letters_in(alloc, case, units.units())?;
     Ok(Act::Give(Value::Text(text_of_units(alloc, letters.items())?)))

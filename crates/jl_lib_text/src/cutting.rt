@@ -1,11 +1,11 @@
 //! `slice` and `substring` (15.5.4.13, 15.5.4.15).
 ghost use Rattle.std.specs.Prelude.{◌≡◌, ◌≤◌, length, pos, IfOk, Some};
+ghost use Rattle.jl_lib_text.specs.inner.Methods.{part_of_string};
 ghost use Rattle.jl_meaning.specs.Conversions.{integer_of};
 ghost use Rattle.jl_meaning.specs.Parts.{◌>>=◌ as ◌then◌};
 ghost use Rattle.jl_meaning.specs.builtins.Arguments.{give_string};
 ghost use Rattle.jl_meaning.specs.builtins.Elements.{to_end};
-ghost use Rattle.jl_progress.specs.Strings.{method_of_string, string_after, units_cut};
-ghost use Rattle.jl_progress.specs.declared.string.StringMethod.TheVariants as method;
+ghost use Rattle.jl_progress.specs.Strings.{string_after, units_cut};
 ghost use Rattle.jl_progress.specs.declared.string.StringProgress.TheVariants as progress;
 ghost use Rattle.jl_state.specs.Clauses.{Computes, RankAtMost};
 ghost use Rattle.jl_state.specs.Rank.{rank_act};
@@ -29,7 +29,7 @@ pub(crate) fn convert_start<'p>(
     units: Text,
     args: &[Value],
 ) -> Result<Act<'p>, NoMemory>
-    ensures leads { Computes state.old (method_of_string (method.Cut cut) units args.now) result state.new }
+    ensures leads { Computes state.old (part_of_string cut units args.now) result state.new }
     ensures falls { RankAtMost state.old 46 result state.new }
 {
     let alloc = state.alloc();

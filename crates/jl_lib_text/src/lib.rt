@@ -9,9 +9,9 @@ mod joining;
 mod methods;
 mod places;
 mod positions;
-mod spaces;
 mod splitting;
 mod starting;
 mod texts;
 
+pub use methods::start_method;
 pub use starting::{resume, start};

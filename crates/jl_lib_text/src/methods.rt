@@ -1,34 +1,38 @@
 //! Methods of strings, which begin with `this` as a string (15.5.4).
-ghost use Rattle.jl_meaning.specs.Parts.{◌>>=◌ as ◌then◌};
-ghost use Rattle.jl_meaning.specs.builtins.Arguments.{string_of_this};
-ghost use Rattle.jl_progress.specs.Strings.{method_of_string, string_after};
+ghost use Rattle.std.specs.Prelude.{◌≤◌, IfOk};
+ghost use Rattle.jl_meaning.specs.builtins.String.{method_of_string, string_method_algorithm, string_trim};
+ghost use Rattle.jl_progress.specs.Strings.{string_after};
 ghost use Rattle.jl_progress.specs.declared.string.StringProgress.TheVariants as progress;
 ghost use Rattle.jl_state.specs.Clauses.{Computes, RankAtMost};
+ghost use Rattle.jl_state.specs.Rank.{rank_act};
+ghost use Rattle.jl_state.specs.Rest.{Works};
 ghost use Rattle.jl_state.specs.Words.{call_of};
+ghost use Rattle.jl_state.specs.declared.state.State.{State as Machine};
 
-use crate::casing::give_in_case;
+use crate::casing::{LetterCase, give_in_case};
 use crate::cutting::convert_start;
 use crate::joining::join_all;
 use crate::places::convert_part;
 use crate::positions::convert_position;
-use crate::spaces::give_trimmed;
 use crate::splitting::split;
+use crate::texts::text_of_units;
 use jl_algorithm::throw_native;
 use jl_builtin::{copy_of, wait_for_string};
+use jl_conv::{without_end, without_front};
 use jl_operator::text_of;
-use jl_progress::{Progress, StringMethod, StringProgress};
+use jl_progress::{Cut, Progress, Search, StringProgress, UnitForm};
 use jl_state::{Act, Invocation, State};
 use jl_text::{List, NoMemory, Text};
-use jl_value::{ErrorKind, Value, share};
+use jl_value::{ErrorKind, StringMethod, Value, share};
+use std::alloc::Global;
 
-/// A method is called: `this` is converted first, which throws where it is undefined or null (9.10).
-pub(crate) fn call_method<'p>(
+/// Begins a method: `this` is converted first, which throws where it is undefined or null (9.10).
+pub fn start_method<'p>(
     state: &mut State<'p>,
     method: StringMethod,
     call: &Invocation,
 ) -> Result<Act<'p>, NoMemory>
-    ensures leads { Computes state.old (string_of_this (call_of call.now) then λ units. method_of_string method
-        units call.now.args) result state.new }
+    ensures leads { Computes state.old (string_method_algorithm method (call_of call.now)) result state.new }
     ensures falls { RankAtMost state.old 76 result state.new }
 {
     let alloc = state.alloc();
@@ -50,6 +54,15 @@ pub(crate) fn call_method<'p>(
     }
 }
 
+/// A string is given without the spaces at its ends (15.5.4.20).
+fn give_trimmed<'p>(alloc: Global, units: &Text) -> Result<Act<'p>, NoMemory>
+    ensures leads { IfOk result (λ act. (s : Machine) → Works s (string_trim units.now) s act) }
+    ensures low { IfOk result (λ act. rank_act act ≤ 2) }
+{
+    let trimmed = without_end(without_front(units.units()));
+    Ok(Act::Give(Value::Text(text_of_units(alloc, trimmed)?)))
+}
+
 /// What a method does when it has `this` as a string.
 fn method_of_string<'p>(
     state: &mut State<'p>,
@@ -62,12 +75,16 @@ fn method_of_string<'p>(
 {
     let alloc = state.alloc();
     match method {
-        StringMethod::Unit(form) => convert_position(state, form, units, args),
+        StringMethod::CharAt => convert_position(state, UnitForm::Text, units, args),
+        StringMethod::CharCodeAt => convert_position(state, UnitForm::Code, units, args),
         StringMethod::Concat => join_all(state, &units, args),
-        StringMethod::Search(search) => convert_part(state, search, units, args),
-        StringMethod::Cut(cut) => convert_start(state, cut, units, args),
+        StringMethod::IndexOf => convert_part(state, Search::First, units, args),
+        StringMethod::LastIndexOf => convert_part(state, Search::Last, units, args),
+        StringMethod::Slice => convert_start(state, Cut::Slice, units, args),
         StringMethod::Split => split(state, units, args),
-        StringMethod::Case(case) => give_in_case(alloc, case, &units),
+        StringMethod::Substring => convert_start(state, Cut::Substring, units, args),
+        StringMethod::ToLowerCase => give_in_case(alloc, LetterCase::Lower, &units),
+        StringMethod::ToUpperCase => give_in_case(alloc, LetterCase::Upper, &units),
         StringMethod::Trim => give_trimmed(alloc, &units),
     }
 }

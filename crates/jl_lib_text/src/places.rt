@@ -1,10 +1,10 @@
 //! `indexOf` and `lastIndexOf` (15.5.4.7, 15.5.4.8).
 ghost use Rattle.std.specs.Prelude.{◌≡◌, IfOk};
+ghost use Rattle.jl_lib_text.specs.inner.Methods.{place_in_string};
 ghost use Rattle.jl_meaning.specs.Conversions.{to_number};
 ghost use Rattle.jl_meaning.specs.Parts.{give, ◌>>=◌ as ◌then◌};
 ghost use Rattle.jl_meaning.specs.builtins.String.{last_start};
-ghost use Rattle.jl_progress.specs.Strings.{method_of_string, place_of_part, string_after};
-ghost use Rattle.jl_progress.specs.declared.string.StringMethod.TheVariants as method;
+ghost use Rattle.jl_progress.specs.Strings.{place_of_part, string_after};
 ghost use Rattle.jl_progress.specs.declared.string.StringProgress.TheVariants as progress;
 ghost use Rattle.jl_state.specs.Clauses.{Computes, RankAtMost};
 
@@ -23,7 +23,7 @@ pub(crate) fn convert_part<'p>(
     units: Text,
     args: &[Value],
 ) -> Result<Act<'p>, NoMemory>
-    ensures leads { Computes state.old (method_of_string (method.Search search) units args.now) result state.new }
+    ensures leads { Computes state.old (place_in_string search units args.now) result state.new }
     ensures falls { RankAtMost state.old 46 result state.new }
 {
     let alloc = state.alloc();

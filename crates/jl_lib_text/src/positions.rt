@@ -1,10 +1,10 @@
 //! `charAt` and `charCodeAt` (15.5.4.4, 15.5.4.5).
 ghost use Rattle.std.specs.Prelude.{◌≡◌, ◌≤◌, IfOk};
+ghost use Rattle.jl_lib_text.specs.inner.Methods.{unit_of_string};
 ghost use Rattle.jl_meaning.specs.Conversions.{integer_of};
 ghost use Rattle.jl_meaning.specs.Parts.{give};
 ghost use Rattle.jl_meaning.specs.builtins.String.{unit_at_position};
-ghost use Rattle.jl_progress.specs.Strings.{method_of_string, string_after, unit_given};
-ghost use Rattle.jl_progress.specs.declared.string.StringMethod.TheVariants as method;
+ghost use Rattle.jl_progress.specs.Strings.{string_after, unit_given};
 ghost use Rattle.jl_progress.specs.declared.string.StringProgress.TheVariants as progress;
 ghost use Rattle.jl_state.specs.Clauses.{Computes, RankAtMost};
 ghost use Rattle.jl_state.specs.Rank.{rank_act};
@@ -29,7 +29,7 @@ pub(crate) fn convert_position<'p>(
     units: Text,
     args: &[Value],
 ) -> Result<Act<'p>, NoMemory>
-    ensures leads { Computes state.old (method_of_string (method.Unit form) units args.now) result state.new }
+    ensures leads { Computes state.old (unit_of_string form units args.now) result state.new }
     ensures falls { RankAtMost state.old 22 result state.new }
 {
     let alloc = state.alloc();

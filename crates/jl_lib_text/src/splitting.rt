@@ -4,9 +4,8 @@ ghost use Rattle.jl_meaning.specs.Conversions.{to_uint32};
 ghost use Rattle.jl_meaning.specs.Parts.{◌>>=◌ as ◌then◌};
 ghost use Rattle.jl_meaning.specs.builtins.Arguments.{give_object, unless_undefined};
 ghost use Rattle.jl_meaning.specs.builtins.Elements.{add_in_turns};
-ghost use Rattle.jl_meaning.specs.builtins.String.{pieces};
-ghost use Rattle.jl_progress.specs.Strings.{method_of_string, split_up_to, string_after};
-ghost use Rattle.jl_progress.specs.declared.string.StringMethod.TheVariants as method;
+ghost use Rattle.jl_meaning.specs.builtins.String.{pieces, string_split};
+ghost use Rattle.jl_progress.specs.Strings.{split_up_to, string_after};
 ghost use Rattle.jl_progress.specs.declared.string.StringProgress.TheVariants as progress;
 ghost use Rattle.jl_state.specs.Clauses.{Computes, RankAtMost};
 ghost use Rattle.jl_value.specs.declared.value.Value.TheVariants as value;
@@ -144,7 +143,7 @@ pub(crate) fn split<'p>(
     units: Text,
     args: &[Value],
 ) -> Result<Act<'p>, NoMemory>
-    ensures leads { Computes state.old (method_of_string method.Split units args.now) result state.new }
+    ensures leads { Computes state.old (string_split units args.now) result state.new }
     ensures falls { RankAtMost state.old 46 result state.new }
 {
     let alloc = state.alloc();

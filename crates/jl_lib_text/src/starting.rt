@@ -9,17 +9,16 @@ use crate::codes::{resume_char_code, string_from_char_code};
 use crate::constructing::{resume_given, string_constructor, string_value};
 use crate::cutting::{resume_end, resume_start};
 use crate::joining::resume_joined;
-use crate::methods::{call_method, resume_this};
+use crate::methods::resume_this;
 use crate::places::{resume_part, resume_place};
 use crate::positions::resume_position;
 use crate::splitting::{resume_limit, resume_separator};
-use jl_builtin::unsupported;
-use jl_progress::{Cut, LetterCase, Search, StringMethod, StringProgress, UnitForm};
+use jl_progress::StringProgress;
 use jl_state::{Act, Invocation, State};
 use jl_text::NoMemory;
-use jl_value::{Builtin, StringBuiltin, Value};
+use jl_value::{StringBuiltin, Value};
 
-/// Begins a builtin with a call that it borrows: methods begin with `this` as a string (15.5.4).
+/// Begins a builtin with a call that it borrows.
 fn begin<'p>(
     state: &mut State<'p>,
     builtin: StringBuiltin,
@@ -33,35 +32,10 @@ fn begin<'p>(
         StringBuiltin::FromCharCode => string_from_char_code(state, call),
         StringBuiltin::ToString => string_value(state, call),
         StringBuiltin::ValueOf => string_value(state, call),
-        StringBuiltin::CharAt => call_method(state, StringMethod::Unit(UnitForm::Text), call),
-        StringBuiltin::CharCodeAt => call_method(state, StringMethod::Unit(UnitForm::Code), call),
-        StringBuiltin::Concat => call_method(state, StringMethod::Concat, call),
-        StringBuiltin::IndexOf => call_method(state, StringMethod::Search(Search::First), call),
-        StringBuiltin::LastIndexOf => call_method(state, StringMethod::Search(Search::Last), call),
-        StringBuiltin::Slice => call_method(state, StringMethod::Cut(Cut::Slice), call),
-        StringBuiltin::Split => call_method(state, StringMethod::Split, call),
-        StringBuiltin::Substring => call_method(state, StringMethod::Cut(Cut::Substring), call),
-        StringBuiltin::ToLowerCase => call_method(
-            state,
-            StringMethod::Case(LetterCase::Lower),
-            call,
-        ),
-        StringBuiltin::ToUpperCase => call_method(
-            state,
-            StringMethod::Case(LetterCase::Upper),
-            call,
-        ),
-        StringBuiltin::Trim => call_method(state, StringMethod::Trim, call),
-        StringBuiltin::ToLocaleLowerCase => Ok(unsupported(Builtin::String(builtin))),
-        StringBuiltin::ToLocaleUpperCase => Ok(unsupported(Builtin::String(builtin))),
-        StringBuiltin::LocaleCompare => Ok(unsupported(Builtin::String(builtin))),
-        StringBuiltin::Replace => Ok(unsupported(Builtin::String(builtin))),
-        StringBuiltin::Match => Ok(unsupported(Builtin::String(builtin))),
-        StringBuiltin::Search => Ok(unsupported(Builtin::String(builtin))),
     }
 }
 
-/// Begins a builtin of this crate: `String`, or a function of it or of its prototype (15.5).
+/// Begins `String`, or a function of it or of its prototype that is no method of a string (15.5).
 pub fn start<'p>(
     state: &mut State<'p>,
     builtin: StringBuiltin,

@@ -6,7 +6,7 @@ ghost use Rattle.jl_progress.specs.Progress.{progress_after, rank_progress};
 ghost use Rattle.jl_state.specs.Clauses.{Computes, RankAtMost};
 ghost use Rattle.jl_state.specs.Words.{call_of, table_of};
 
-use jl_builtin::fill_array;
+use jl_builtin::{fill_array, unsupported};
 use jl_lib_array as array;
 use jl_lib_misc as misc;
 use jl_lib_object::{resume_function, resume_object, start_function, start_object};
@@ -32,6 +32,8 @@ pub(crate) fn begin_builtin<'p>(
         Builtin::Function(builtin) => start_function(state, builtin, call),
         Builtin::Array(builtin) => array::start(state, builtin, call),
         Builtin::String(builtin) => text::start(state, builtin, call),
+        Builtin::StringMethod(method) => text::start_method(state, method, &call),
+        Builtin::LeftOutStringMethod(_) => Ok(unsupported(builtin)),
         Builtin::Global(builtin) => misc::start_global(state, builtin, &call),
         Builtin::Number(builtin) => misc::start_number(state, builtin, &call),
         Builtin::Boolean(builtin) => misc::start_boolean(state, builtin, &call),

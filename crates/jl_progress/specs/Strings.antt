@@ -1,45 +1,31 @@
 -- What the builtins of strings do with the value that they waited for (15.5).
-use Rattle.std.specs.List.{list_any}
 use Rattle.std.specs.Option.{option_map_or}
-use Rattle.std.specs.Prelude.{[], drop, if◌then◌else◌, length, map, slice_index_or, slice_range, take, ◌++◌, ◌∷◌, List}
+use Rattle.std.specs.Prelude.{[], drop, length, map, slice_range, take, ◌++◌, ◌∷◌, List}
 use Rattle.std.specs.Prelude.{None, Option, ℕ, ℤ}
 use Rattle.jl_num.specs.Bits.{uint16_of, uint32_of}
 use Rattle.jl_num.specs.Number.{Number}
 use Rattle.jl_text.specs.Search.{first_place, last_place}
-use Rattle.jl_value.specs.declared.builtin.Builtin.TheVariants as builtin
-use Rattle.jl_value.specs.declared.builtin_groups.StringBuiltin.TheVariants as string_builtin
 use Rattle.jl_value.specs.declared.object.ObjId.{ObjId}
 use Rattle.jl_value.specs.declared.value.Value.{Value}
 use Rattle.jl_value.specs.declared.value.Value.TheVariants as value
 use Rattle.jl_conv.specs.Conversions.{text_of_value}
-use Rattle.jl_conv.specs.Numerals.{trim}
-use Rattle.jl_effects.specs.Effects.{Fail}
-use Rattle.jl_meaning.specs.Conversions.{integer_of, to_integer, to_number, to_string, to_uint32}
+use Rattle.jl_meaning.specs.Conversions.{integer_of, to_number}
 use Rattle.jl_meaning.specs.Errors.{string_within}
 use Rattle.jl_meaning.specs.FunctionObjects.{whole}
-use Rattle.jl_meaning.specs.Parts.{give, ◌>>=◌, Algorithm, Unsupported}
-use Rattle.jl_meaning.specs.builtins.Arguments.{give_object, give_string, unless_undefined}
+use Rattle.jl_meaning.specs.Parts.{give, ◌>>=◌, Algorithm}
+use Rattle.jl_meaning.specs.builtins.Arguments.{give_object, give_string}
 use Rattle.jl_meaning.specs.builtins.Elements.{add_in_turns, clamp, index_or_none, relative_index, to_end}
-use Rattle.jl_meaning.specs.builtins.String.{between, concat_all, is_past_ascii, last_start, lower, pieces}
-use Rattle.jl_meaning.specs.builtins.String.{pieces_between, string_or_object, unit_at_position, units_from, upper}
-use Rattle.jl_meaning.specs.forms.Literals.{new_array}
+use Rattle.jl_meaning.specs.builtins.String.{between, concat_all, last_start, method_of_string, pieces, pieces_between}
+use Rattle.jl_meaning.specs.builtins.String.{string_or_object, unit_at_position, units_from}
 use Rattle.jl_progress.specs.Primitives.{number_of_primitive}
 use Rattle.jl_progress.specs.declared.string.Cut.{Cut}
 use Rattle.jl_progress.specs.declared.string.Cut.TheVariants as cut
-use Rattle.jl_progress.specs.declared.string.LetterCase.{LetterCase}
-use Rattle.jl_progress.specs.declared.string.LetterCase.TheVariants as letter_case
 use Rattle.jl_progress.specs.declared.string.Search.{Search}
 use Rattle.jl_progress.specs.declared.string.Search.TheVariants as search
-use Rattle.jl_progress.specs.declared.string.StringMethod.{StringMethod}
-use Rattle.jl_progress.specs.declared.string.StringMethod.TheVariants as method
 use Rattle.jl_progress.specs.declared.string.StringProgress.{StringProgress}
 use Rattle.jl_progress.specs.declared.string.StringProgress.TheVariants as string
 use Rattle.jl_progress.specs.declared.string.UnitForm.{UnitForm}
 use Rattle.jl_progress.specs.declared.string.UnitForm.TheVariants as unit_form
-
--- an argument; one that isn't given is undefined
-abbrev pub argument_at : List Value → ℕ → Value
-argument_at args i = slice_index_or args i value.Undefined
 
 -- a unit that was found, or else the empty string or NaN
 abbrev pub unit_given : UnitForm → Option ℕ → Value
@@ -70,38 +56,6 @@ split_up_to units array separator limit = do
   parts ← pieces_between separator units
   fill_with_pieces array limit parts
 
--- each unit in the other case, where all are in ASCII
-abbrev pub units_in_case : LetterCase → List ℕ → Algorithm Value
-units_in_case letter_case.Lower units =
-    if list_any is_past_ascii units then Fail (Unsupported (builtin.String string_builtin.ToLowerCase))
-    else give_string (map lower units)
-units_in_case letter_case.Upper units =
-    if list_any is_past_ascii units then Fail (Unsupported (builtin.String string_builtin.ToUpperCase))
-    else give_string (map upper units)
-
--- what a method does when it has `this` as a string
-abbrev pub method_of_string : StringMethod → (units : List ℕ) → (args : List Value) → Algorithm Value
-method_of_string (method.Unit form) units args = do
-  position ← to_integer (argument_at args 0)
-  give (unit_given form (unit_at_position units position))
-method_of_string method.Concat units args = do
-  all ← concat_all units args
-  give_string all
-method_of_string (method.Search which) units args = do
-  part ← to_string (argument_at args 0)
-  position ← to_number (argument_at args 1)
-  give (place_of_part which units part position)
-method_of_string (method.Cut which) units args = do
-  start ← to_integer (argument_at args 0)
-  end ← to_end (argument_at args 1) (length units)
-  give_string (units_cut which units start end)
-method_of_string method.Split units args = do
-  array ← new_array
-  limit ← unless_undefined 4294967295 to_uint32 (argument_at args 1)
-  split_up_to units array (argument_at args 0) limit
-method_of_string (method.Case which) units args = units_in_case which units
-method_of_string method.Trim units args = give_string (trim units)
-
 abbrev pub string_after : StringProgress → Value → Algorithm Value
 string_after (string.Given by_new) p = string_or_object by_new (text_of_value p)
 string_after (string.CharCode units args from) p = do
@@ -109,7 +63,7 @@ string_after (string.CharCode units args from) p = do
   all ← units_from (units ++ uint16_of n ∷ []) (drop from args)
   within ← string_within all
   give_string within
-string_after (string.This which args) p = method_of_string which (text_of_value p) args
+string_after (string.This method args) p = method_of_string method (text_of_value p) args
 string_after (string.Position form units) p = do
   n ← number_of_primitive p
   give (unit_given form (unit_at_position units (integer_of n)))
@@ -138,7 +92,7 @@ string_after (string.Separator units array limit) p = fill_with_pieces array lim
 abbrev pub rank_string : StringProgress → ℕ
 rank_string (string.Given by_new) = 6
 rank_string (string.CharCode units args from) = 6
-rank_string (string.This which args) = 60
+rank_string (string.This method args) = 60
 rank_string (string.Position form units) = 6
 rank_string (string.Joined units args from) = 6
 rank_string (string.Part which units position) = 30

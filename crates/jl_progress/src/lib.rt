@@ -22,4 +22,4 @@ pub use global::{GlobalProgress, NumberTest};
 pub use number::{Extreme, NumberFunction, NumberProgress};
 pub use object::{DescriptorField, DescriptorUse, Integrity, NamedChange, ObjectProgress, OwnTest};
 pub use progress::Progress;
-pub use string::{Cut, LetterCase, Search, StringMethod, StringProgress, UnitForm};
+pub use string::{Cut, Search, StringProgress, UnitForm};

@@ -1,7 +1,7 @@
 //! What the builtins of strings keep while they wait for a value (15.5).
 use jl_num::Num;
 use jl_text::{List, Text};
-use jl_value::{ObjId, Value};
+use jl_value::{ObjId, StringMethod, Value};
 
 /// How a unit of a string is given (15.5.4.4, 15.5.4.5).
 #[derive(Clone, Copy)]
@@ -28,34 +28,6 @@ pub enum Cut {
     Slice,
     /// What `substring` gives, which takes its two places in either order.
     Substring,
-}
-
-/// The case that a string is given in (15.5.4.16, 15.5.4.18).
-#[derive(Clone, Copy)]
-pub enum LetterCase {
-    /// By `toLowerCase`.
-    Lower,
-    /// By `toUpperCase`.
-    Upper,
-}
-
-/// What is done with `this` as a string (15.5.4).
-#[derive(Clone, Copy)]
-pub enum StringMethod {
-    /// A unit of it is given (15.5.4.4, 15.5.4.5).
-    Unit(UnitForm),
-    /// Other strings are joined to it (15.5.4.6).
-    Concat,
-    /// A part is searched for in it (15.5.4.7, 15.5.4.8).
-    Search(Search),
-    /// A part is cut out of it (15.5.4.13, 15.5.4.15).
-    Cut(Cut),
-    /// It is split into pieces (15.5.4.14).
-    Split,
-    /// It is given in one case (15.5.4.16, 15.5.4.18).
-    Case(LetterCase),
-    /// It is given without white space at its ends (15.5.4.20).
-    Trim,
 }
 
 /// What a builtin of strings has done so far.

@@ -4,7 +4,8 @@ use Rattle.std.specs.List.{list_all}
 use Rattle.std.specs.Prelude.{◌≢◌}
 use Rattle.jl_value.specs.BuiltinPlaces.{bound, place_of_builtin}
 use Rattle.jl_value.specs.Builtins.{array_entry, boolean_entry, entry_of, error_entry, function_entry, global_entry}
-use Rattle.jl_value.specs.Builtins.{math_entry, number_entry, object_entry, string_entry}
+use Rattle.jl_value.specs.Builtins.{left_out_string_method_entry, math_entry, number_entry, object_entry, string_entry}
+use Rattle.jl_value.specs.Builtins.{string_method_entry}
 use Rattle.jl_value.specs.declared.builtin.Builtin.{Builtin}
 use Rattle.jl_value.specs.declared.builtin.Builtin.TheVariants as builtin
 use Rattle.jl_value.specs.declared.builtin.Holder.{Holder}
@@ -19,6 +20,8 @@ use Rattle.jl_value.specs.declared.builtin_groups.FunctionBuiltin.{FunctionBuilt
 use Rattle.jl_value.specs.declared.builtin_groups.FunctionBuiltin.TheVariants as function_builtin
 use Rattle.jl_value.specs.declared.builtin_groups.GlobalBuiltin.{GlobalBuiltin}
 use Rattle.jl_value.specs.declared.builtin_groups.GlobalBuiltin.TheVariants as global_builtin
+use Rattle.jl_value.specs.declared.builtin_groups.LeftOutStringMethod.{LeftOutStringMethod}
+use Rattle.jl_value.specs.declared.builtin_groups.LeftOutStringMethod.TheVariants as left_out_string_method
 use Rattle.jl_value.specs.declared.builtin_groups.MathBuiltin.{MathBuiltin}
 use Rattle.jl_value.specs.declared.builtin_groups.MathBuiltin.TheVariants as math_builtin
 use Rattle.jl_value.specs.declared.builtin_groups.NumberBuiltin.{NumberBuiltin}
@@ -27,6 +30,8 @@ use Rattle.jl_value.specs.declared.builtin_groups.ObjectBuiltin.{ObjectBuiltin}
 use Rattle.jl_value.specs.declared.builtin_groups.ObjectBuiltin.TheVariants as object_builtin
 use Rattle.jl_value.specs.declared.builtin_groups.StringBuiltin.{StringBuiltin}
 use Rattle.jl_value.specs.declared.builtin_groups.StringBuiltin.TheVariants as string_builtin
+use Rattle.jl_value.specs.declared.builtin_groups.StringMethod.{StringMethod}
+use Rattle.jl_value.specs.declared.builtin_groups.StringMethod.TheVariants as string_method
 use Rattle.jl_value.specs.declared.object.ObjId.{ObjId}
 use Rattle.jl_meaning.specs.Realm.{has_function_object, holds}
 use Rattle.jl_realm.specs.inner.Steps.{closing_step, functions_step, has_place, own_step, prototype_step, step_fits}
@@ -66,6 +71,14 @@ by_string : (b : StringBuiltin) → is_placed (string_entry b).holder ≡ true
 by_string string_builtin.Constructor = refl
 by_string b = refl
 
+by_string_method : (m : StringMethod) → is_placed (string_method_entry m).holder ≡ true
+by_string_method string_method.CharAt = refl
+by_string_method m = refl
+
+by_left_out_string_method : (m : LeftOutStringMethod) → is_placed (left_out_string_method_entry m).holder ≡ true
+by_left_out_string_method left_out_string_method.Replace = refl
+by_left_out_string_method m = refl
+
 by_global : (b : GlobalBuiltin) → is_placed (global_entry b).holder ≡ true
 by_global global_builtin.Print = refl
 by_global b = refl
@@ -92,6 +105,8 @@ holder_placed (builtin.Object b) = by_object b
 holder_placed (builtin.Function b) = by_function b
 holder_placed (builtin.Array b) = by_array b
 holder_placed (builtin.String b) = by_string b
+holder_placed (builtin.StringMethod m) = by_string_method m
+holder_placed (builtin.LeftOutStringMethod m) = by_left_out_string_method m
 holder_placed (builtin.Global b) = by_global b
 holder_placed (builtin.Number b) = by_number b
 holder_placed (builtin.Boolean b) = by_boolean b

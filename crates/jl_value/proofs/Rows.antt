@@ -1,15 +1,21 @@
 -- The rows of builtins.
-use Rattle.std.proofs.Common.{◌≡◌, ◌∙◌, ◌+◌, Bool, List, Some, ap, refl, subst, sym, true, ℕ}
-use Rattle.std.proofs.Math.Dec.{eqb}
-use Rattle.std.proofs.lemmas.Bool.{eqb-true}
+use Rattle.std.proofs.Common.{◌≡◌, ◌∙◌, ◌+◌, ◌≤◌, Bool, List, None, Option, Some, ap, arith, drop, get_or, length, map}
+use Rattle.std.proofs.Common.{refl, subst, sym, take, true, zero-add, ℕ}
+use Rattle.std.proofs.Math.Dec.{eqb, leb}
+use Rattle.std.proofs.Math.ListN.{get_or-map}
+use Rattle.std.proofs.lemmas.Bool.{eqb-true, leb-true}
+use Rattle.std.proofs.lemmas.List.{get_or-drop, get_or-take}
 use Rattle.std.proofs.lemmas.List.Elements.{All-get_or}
+use Rattle.std.proofs.lemmas.List.FromFn.{get_or-range_with_len}
 use Rattle.std.proofs.lemmas.List.Sums.{AllPass-from_list_all}
-use Rattle.std.proofs.lemmas.Option.{get_or_from_slice_get, slice_get_within}
-use Rattle.std.specs.List.{list_all}
+use Rattle.std.proofs.lemmas.Option.{get_or_from_slice_get, slice_get_read, slice_get_within}
+use Rattle.std.specs.List.{filter_map, list_all, range_with_len}
 use Rattle.std.specs.Option.{unwrap_or}
 use Rattle.std.specs.Prelude.{◌≢◌, All, position, slice_get}
 use Rattle.std.specs.Str.{bytes_eq}
-use denote.Enum.Declared.{tag_of}
+use denote.Enum.Bare.{tag_one, Bare}
+use denote.Enum.Declared.{tag_of, variants, Declared}
+use denote.Enum.Enum.{tag_below}
 use Rattle.jl_value.specs.BuiltinPlaces.{row_of}
 use Rattle.jl_value.specs.Builtins.{builtins, entry_of, name_of}
 use Rattle.jl_value.specs.contracts.builtin_groups.ArrayBuiltin.{the_type as array_type}
@@ -17,158 +23,149 @@ use Rattle.jl_value.specs.contracts.builtin_groups.BooleanBuiltin.{the_type as b
 use Rattle.jl_value.specs.contracts.builtin_groups.ErrorBuiltin.{the_type as error_type}
 use Rattle.jl_value.specs.contracts.builtin_groups.FunctionBuiltin.{the_type as function_type}
 use Rattle.jl_value.specs.contracts.builtin_groups.GlobalBuiltin.{the_type as global_type}
+use Rattle.jl_value.specs.contracts.builtin_groups.LeftOutStringMethod.{the_type as left_out_string_method_type}
 use Rattle.jl_value.specs.contracts.builtin_groups.MathBuiltin.{the_type as math_type}
 use Rattle.jl_value.specs.contracts.builtin_groups.NumberBuiltin.{the_type as number_type}
 use Rattle.jl_value.specs.contracts.builtin_groups.ObjectBuiltin.{the_type as object_type}
 use Rattle.jl_value.specs.contracts.builtin_groups.StringBuiltin.{the_type as string_type}
+use Rattle.jl_value.specs.contracts.builtin_groups.StringMethod.{the_type as string_method_type}
 use Rattle.jl_value.specs.declared.builtin.Builtin.{Builtin}
 use Rattle.jl_value.specs.declared.builtin.Builtin.TheVariants as builtin
+use Rattle.jl_value.specs.declared.builtin.TheConstants.{ARRAY, BOOLEAN, ERROR, FUNCTION, GLOBAL}
+use Rattle.jl_value.specs.declared.builtin.TheConstants.{LEFT_OUT_STRING_METHOD, MATH, NUMBER, STRING, STRING_METHOD}
 use Rattle.jl_value.specs.declared.builtin_groups.ArrayBuiltin.{ArrayBuiltin}
-use Rattle.jl_value.specs.declared.builtin_groups.ArrayBuiltin.TheVariants as array_builtin
 use Rattle.jl_value.specs.declared.builtin_groups.BooleanBuiltin.{BooleanBuiltin}
-use Rattle.jl_value.specs.declared.builtin_groups.BooleanBuiltin.TheVariants as boolean_builtin
 use Rattle.jl_value.specs.declared.builtin_groups.ErrorBuiltin.{ErrorBuiltin}
-use Rattle.jl_value.specs.declared.builtin_groups.ErrorBuiltin.TheVariants as error_builtin
 use Rattle.jl_value.specs.declared.builtin_groups.FunctionBuiltin.{FunctionBuiltin}
-use Rattle.jl_value.specs.declared.builtin_groups.FunctionBuiltin.TheVariants as function_builtin
 use Rattle.jl_value.specs.declared.builtin_groups.GlobalBuiltin.{GlobalBuiltin}
-use Rattle.jl_value.specs.declared.builtin_groups.GlobalBuiltin.TheVariants as global_builtin
+use Rattle.jl_value.specs.declared.builtin_groups.LeftOutStringMethod.{LeftOutStringMethod}
 use Rattle.jl_value.specs.declared.builtin_groups.MathBuiltin.{MathBuiltin}
-use Rattle.jl_value.specs.declared.builtin_groups.MathBuiltin.TheVariants as math_builtin
 use Rattle.jl_value.specs.declared.builtin_groups.NumberBuiltin.{NumberBuiltin}
-use Rattle.jl_value.specs.declared.builtin_groups.NumberBuiltin.TheVariants as number_builtin
 use Rattle.jl_value.specs.declared.builtin_groups.ObjectBuiltin.{ObjectBuiltin}
-use Rattle.jl_value.specs.declared.builtin_groups.ObjectBuiltin.TheVariants as object_builtin
 use Rattle.jl_value.specs.declared.builtin_groups.StringBuiltin.{StringBuiltin}
-use Rattle.jl_value.specs.declared.builtin_groups.StringBuiltin.TheVariants as string_builtin
+use Rattle.jl_value.specs.declared.builtin_groups.StringMethod.{StringMethod}
 
--- each builtin stands in its row
-pub stands : (b : Builtin) → slice_get builtins (row_of b) ≡ Some b
-unfolding builtins row_of entry_of
-stands (builtin.Object object_builtin.Constructor) = refl
-stands (builtin.Object object_builtin.GetPrototypeOf) = refl
-stands (builtin.Object object_builtin.GetOwnPropertyDescriptor) = refl
-stands (builtin.Object object_builtin.GetOwnPropertyNames) = refl
-stands (builtin.Object object_builtin.Create) = refl
-stands (builtin.Object object_builtin.DefineProperty) = refl
-stands (builtin.Object object_builtin.DefineProperties) = refl
-stands (builtin.Object object_builtin.Seal) = refl
-stands (builtin.Object object_builtin.Freeze) = refl
-stands (builtin.Object object_builtin.PreventExtensions) = refl
-stands (builtin.Object object_builtin.IsSealed) = refl
-stands (builtin.Object object_builtin.IsFrozen) = refl
-stands (builtin.Object object_builtin.IsExtensible) = refl
-stands (builtin.Object object_builtin.Keys) = refl
-stands (builtin.Object object_builtin.ToString) = refl
-stands (builtin.Object object_builtin.ToLocaleString) = refl
-stands (builtin.Object object_builtin.ValueOf) = refl
-stands (builtin.Object object_builtin.HasOwnProperty) = refl
-stands (builtin.Object object_builtin.IsPrototypeOf) = refl
-stands (builtin.Object object_builtin.PropertyIsEnumerable) = refl
-stands (builtin.Function function_builtin.Constructor) = refl
-stands (builtin.Function function_builtin.Prototype) = refl
-stands (builtin.Function function_builtin.ToString) = refl
-stands (builtin.Function function_builtin.Apply) = refl
-stands (builtin.Function function_builtin.Call) = refl
-stands (builtin.Function function_builtin.Bind) = refl
-stands (builtin.Function function_builtin.Bound) = refl
-stands (builtin.Function function_builtin.Thrower) = refl
-stands (builtin.Array array_builtin.Constructor) = refl
-stands (builtin.Array array_builtin.IsArray) = refl
-stands (builtin.Array array_builtin.ToString) = refl
-stands (builtin.Array array_builtin.ToLocaleString) = refl
-stands (builtin.Array array_builtin.Concat) = refl
-stands (builtin.Array array_builtin.Join) = refl
-stands (builtin.Array array_builtin.Pop) = refl
-stands (builtin.Array array_builtin.Push) = refl
-stands (builtin.Array array_builtin.Reverse) = refl
-stands (builtin.Array array_builtin.Shift) = refl
-stands (builtin.Array array_builtin.Slice) = refl
-stands (builtin.Array array_builtin.Sort) = refl
-stands (builtin.Array array_builtin.Splice) = refl
-stands (builtin.Array array_builtin.Unshift) = refl
-stands (builtin.Array array_builtin.IndexOf) = refl
-stands (builtin.Array array_builtin.LastIndexOf) = refl
-stands (builtin.Array array_builtin.Every) = refl
-stands (builtin.Array array_builtin.Some) = refl
-stands (builtin.Array array_builtin.ForEach) = refl
-stands (builtin.Array array_builtin.Map) = refl
-stands (builtin.Array array_builtin.Filter) = refl
-stands (builtin.Array array_builtin.Reduce) = refl
-stands (builtin.Array array_builtin.ReduceRight) = refl
-stands (builtin.String string_builtin.Constructor) = refl
-stands (builtin.String string_builtin.FromCharCode) = refl
-stands (builtin.String string_builtin.ToString) = refl
-stands (builtin.String string_builtin.ValueOf) = refl
-stands (builtin.String string_builtin.CharAt) = refl
-stands (builtin.String string_builtin.CharCodeAt) = refl
-stands (builtin.String string_builtin.Concat) = refl
-stands (builtin.String string_builtin.IndexOf) = refl
-stands (builtin.String string_builtin.LastIndexOf) = refl
-stands (builtin.String string_builtin.Slice) = refl
-stands (builtin.String string_builtin.Split) = refl
-stands (builtin.String string_builtin.Substring) = refl
-stands (builtin.String string_builtin.ToLowerCase) = refl
-stands (builtin.String string_builtin.ToUpperCase) = refl
-stands (builtin.String string_builtin.Trim) = refl
-stands (builtin.String string_builtin.ToLocaleLowerCase) = refl
-stands (builtin.String string_builtin.ToLocaleUpperCase) = refl
-stands (builtin.String string_builtin.LocaleCompare) = refl
-stands (builtin.String string_builtin.Replace) = refl
-stands (builtin.String string_builtin.Match) = refl
-stands (builtin.String string_builtin.Search) = refl
-stands (builtin.Global global_builtin.Print) = refl
-stands (builtin.Global global_builtin.ConsoleLog) = refl
-stands (builtin.Global global_builtin.ParseInt) = refl
-stands (builtin.Global global_builtin.IsNaN) = refl
-stands (builtin.Global global_builtin.IsFinite) = refl
-stands (builtin.Number number_builtin.Constructor) = refl
-stands (builtin.Number number_builtin.ToString) = refl
-stands (builtin.Number number_builtin.ValueOf) = refl
-stands (builtin.Number number_builtin.ToFixed) = refl
-stands (builtin.Number number_builtin.ToExponential) = refl
-stands (builtin.Number number_builtin.ToPrecision) = refl
-stands (builtin.Number number_builtin.ToLocaleString) = refl
-stands (builtin.Boolean boolean_builtin.Constructor) = refl
-stands (builtin.Boolean boolean_builtin.ToString) = refl
-stands (builtin.Boolean boolean_builtin.ValueOf) = refl
-stands (builtin.Error error_builtin.Error) = refl
-stands (builtin.Error error_builtin.EvalError) = refl
-stands (builtin.Error error_builtin.RangeError) = refl
-stands (builtin.Error error_builtin.ReferenceError) = refl
-stands (builtin.Error error_builtin.SyntaxError) = refl
-stands (builtin.Error error_builtin.TypeError) = refl
-stands (builtin.Error error_builtin.UriError) = refl
-stands (builtin.Error error_builtin.ToString) = refl
-stands (builtin.Math math_builtin.Abs) = refl
-stands (builtin.Math math_builtin.Ceil) = refl
-stands (builtin.Math math_builtin.Floor) = refl
-stands (builtin.Math math_builtin.Max) = refl
-stands (builtin.Math math_builtin.Min) = refl
-stands (builtin.Math math_builtin.Pow) = refl
-stands (builtin.Math math_builtin.Round) = refl
+-- A group of builtins stands in the table from a row on, in the order of its constants.
+module _ (T : Declared) (bare : Bare T.parts) (inside : T.D → Builtin) (from : ℕ) (group : List T.D) where
+  abbrev pub InOrder : Type 0
+  InOrder = map (tag_of T) group ≡ range_with_len 0 (length (variants T))
 
--- what holds of all in the table holds of each builtin
-each : (P : Builtin → Type 0) → All P builtins → (b : Builtin) → P b
-each P all b =
-    let row = row_of b in
-    subst P (get_or_from_slice_get builtins row b b (stands b))
-    (All-get_or P builtins row b (slice_get_within builtins row b (stands b)) all)
+  abbrev pub InTable : Type 0
+  InTable = take (length (variants T)) (drop from builtins) ≡ map inside group
 
-pub all_pass : (test : Builtin → Bool) → list_all test builtins ≡ true → (b : Builtin) → test b ≡ true
-all_pass test all = each (λ b. test b ≡ true) (AllPass-from_list_all test builtins all)
+  in_group : InOrder → (x : T.D) → get_or group (tag_of T x) x ≡ x
+  in_group order x =
+      let tag = tag_of T x in
+      tag_one T bare (get_or group tag x) x
+      (sym (get_or-map (tag_of T) group tag x) ∙ ap (λ l. get_or l tag tag) order
+      ∙ get_or-range_with_len 0 (length (variants T)) tag tag (tag_below (variants T) (T.to x)) ∙ zero-add tag)
+
+  pub in_table : leb (from + length (variants T)) (length builtins) ≡ true → InOrder → InTable → (x : T.D)
+      → slice_get builtins (from + tag_of T x) ≡ Some (inside x)
+  in_table fits order there x =
+      let tag = tag_of T x in
+      let below = tag_below (variants T) (T.to x) in
+      let room = leb-true (from + length (variants T)) (length builtins) fits in
+      slice_get_read builtins (length builtins) (from + tag) (inside x) refl (omega (arith, below, room))
+      (sym (sym (get_or-drop from builtins tag (inside x))
+      ∙ sym (get_or-take (length (variants T)) (drop from builtins) tag (inside x) below)
+      ∙ ap (λ l. get_or l tag (inside x)) there ∙ get_or-map inside group tag x ∙ ap inside (in_group order x)))
+
+abbrev object_of : Builtin → Option ObjectBuiltin
+object_of (builtin.Object b) = Some b
+object_of _ = None
+
+abbrev function_of : Builtin → Option FunctionBuiltin
+function_of (builtin.Function b) = Some b
+function_of _ = None
+
+abbrev array_of : Builtin → Option ArrayBuiltin
+array_of (builtin.Array b) = Some b
+array_of _ = None
+
+abbrev string_of : Builtin → Option StringBuiltin
+string_of (builtin.String b) = Some b
+string_of _ = None
+
+abbrev string_method_of : Builtin → Option StringMethod
+string_method_of (builtin.StringMethod b) = Some b
+string_method_of _ = None
+
+abbrev left_out_string_method_of : Builtin → Option LeftOutStringMethod
+left_out_string_method_of (builtin.LeftOutStringMethod b) = Some b
+left_out_string_method_of _ = None
+
+abbrev global_of : Builtin → Option GlobalBuiltin
+global_of (builtin.Global b) = Some b
+global_of _ = None
+
+abbrev number_of : Builtin → Option NumberBuiltin
+number_of (builtin.Number b) = Some b
+number_of _ = None
+
+abbrev boolean_of : Builtin → Option BooleanBuiltin
+boolean_of (builtin.Boolean b) = Some b
+boolean_of _ = None
+
+abbrev error_of : Builtin → Option ErrorBuiltin
+error_of (builtin.Error b) = Some b
+error_of _ = None
+
+abbrev math_of : Builtin → Option MathBuiltin
+math_of (builtin.Math b) = Some b
+math_of _ = None
 
 -- the row that the code counts
 abbrev counted : Builtin → ℕ
 counted (builtin.Object b) = tag_of object_type b
-counted (builtin.Function b) = 20 + tag_of function_type b
-counted (builtin.Array b) = 28 + tag_of array_type b
-counted (builtin.String b) = 51 + tag_of string_type b
-counted (builtin.Global b) = 72 + tag_of global_type b
-counted (builtin.Number b) = 77 + tag_of number_type b
-counted (builtin.Boolean b) = 84 + tag_of boolean_type b
-counted (builtin.Error b) = 87 + tag_of error_type b
-counted (builtin.Math b) = 95 + tag_of math_type b
+counted (builtin.Function b) = FUNCTION + tag_of function_type b
+counted (builtin.Array b) = ARRAY + tag_of array_type b
+counted (builtin.String b) = STRING + tag_of string_type b
+counted (builtin.StringMethod b) = STRING_METHOD + tag_of string_method_type b
+counted (builtin.LeftOutStringMethod b) = LEFT_OUT_STRING_METHOD + tag_of left_out_string_method_type b
+counted (builtin.Global b) = GLOBAL + tag_of global_type b
+counted (builtin.Number b) = NUMBER + tag_of number_type b
+counted (builtin.Boolean b) = BOOLEAN + tag_of boolean_type b
+counted (builtin.Error b) = ERROR + tag_of error_type b
+counted (builtin.Math b) = MATH + tag_of math_type b
+
+counted_stands : (b : Builtin) → slice_get builtins (counted b) ≡ Some b
+unfolding builtins
+counted_stands (builtin.Object b) =
+    subst (λ row. slice_get builtins row ≡ Some (builtin.Object b)) (zero-add (tag_of object_type b))
+    (in_table object_type tt builtin.Object 0 (filter_map object_of builtins) refl refl refl b)
+counted_stands (builtin.Function b) =
+    in_table function_type tt builtin.Function FUNCTION (filter_map function_of builtins) refl refl refl b
+counted_stands (builtin.Array b) =
+    in_table array_type tt builtin.Array ARRAY (filter_map array_of builtins) refl refl refl b
+counted_stands (builtin.String b) =
+    in_table string_type tt builtin.String STRING (filter_map string_of builtins) refl refl refl b
+counted_stands (builtin.StringMethod b) =
+    in_table string_method_type tt builtin.StringMethod STRING_METHOD (filter_map string_method_of builtins) refl refl
+    refl b
+counted_stands (builtin.LeftOutStringMethod b) =
+    in_table left_out_string_method_type tt builtin.LeftOutStringMethod LEFT_OUT_STRING_METHOD
+    (filter_map left_out_string_method_of builtins) refl refl refl b
+counted_stands (builtin.Global b) =
+    in_table global_type tt builtin.Global GLOBAL (filter_map global_of builtins) refl refl refl b
+counted_stands (builtin.Number b) =
+    in_table number_type tt builtin.Number NUMBER (filter_map number_of builtins) refl refl refl b
+counted_stands (builtin.Boolean b) =
+    in_table boolean_type tt builtin.Boolean BOOLEAN (filter_map boolean_of builtins) refl refl refl b
+counted_stands (builtin.Error b) =
+    in_table error_type tt builtin.Error ERROR (filter_map error_of builtins) refl refl refl b
+counted_stands (builtin.Math b) =
+    in_table math_type tt builtin.Math MATH (filter_map math_of builtins) refl refl refl b
+
+-- what holds of all in the table holds of each builtin
+each : (P : Builtin → Type 0) → All P builtins → (b : Builtin) → P b
+each P all b =
+    let row = counted b in
+    subst P (get_or_from_slice_get builtins row b b (counted_stands b))
+    (All-get_or P builtins row b (slice_get_within builtins row b (counted_stands b)) all)
+
+pub all_pass : (test : Builtin → Bool) → list_all test builtins ≡ true → (b : Builtin) → test b ≡ true
+all_pass test all = each (λ b. test b ≡ true) (AllPass-from_list_all test builtins all)
 
 counted_alike : list_all (λ b. eqb (counted b) (row_of b)) builtins ≡ true
 unfolding builtins row_of entry_of
@@ -178,38 +175,52 @@ counted_row : (b : Builtin) → counted b ≡ row_of b
 counted_row b =
     eqb-true (counted b) (row_of b) (all_pass (λ c. eqb (counted c) (row_of c)) counted_alike b)
 
+-- each builtin stands in its row
+pub stands : (b : Builtin) → slice_get builtins (row_of b) ≡ Some b
+stands b = ap (slice_get builtins) (sym (counted_row b)) ∙ counted_stands b
+
 abbrev pub StandsAt : (b : Builtin) (row : ℕ) → Type 0
 StandsAt b row = (row ≡ row_of b) × (slice_get builtins row ≡ Some b)
 
-counted_stands : (b : Builtin) → StandsAt b (counted b)
-counted_stands b = (counted_row b, ap (slice_get builtins) (counted_row b) ∙ stands b)
-
 pub object_row : (b : ObjectBuiltin) → StandsAt (builtin.Object b) (tag_of object_type b)
-object_row b = counted_stands (builtin.Object b)
+object_row b = (counted_row (builtin.Object b), counted_stands (builtin.Object b))
 
-pub function_row : (b : FunctionBuiltin) → StandsAt (builtin.Function b) (20 + tag_of function_type b)
-function_row b = counted_stands (builtin.Function b)
+pub function_row : (b : FunctionBuiltin) → StandsAt (builtin.Function b) (FUNCTION + tag_of function_type b)
+function_row b = (counted_row (builtin.Function b), counted_stands (builtin.Function b))
 
-pub array_row : (b : ArrayBuiltin) → StandsAt (builtin.Array b) (28 + tag_of array_type b)
-array_row b = counted_stands (builtin.Array b)
+pub array_row : (b : ArrayBuiltin) → StandsAt (builtin.Array b) (ARRAY + tag_of array_type b)
+array_row b = (counted_row (builtin.Array b), counted_stands (builtin.Array b))
 
-pub string_row : (b : StringBuiltin) → StandsAt (builtin.String b) (51 + tag_of string_type b)
-string_row b = counted_stands (builtin.String b)
+pub string_row : (b : StringBuiltin) → StandsAt (builtin.String b) (STRING + tag_of string_type b)
+string_row b = (counted_row (builtin.String b), counted_stands (builtin.String b))
 
-pub global_row : (b : GlobalBuiltin) → StandsAt (builtin.Global b) (72 + tag_of global_type b)
-global_row b = counted_stands (builtin.Global b)
+pub string_method_row : (b : StringMethod)
+    → StandsAt (builtin.StringMethod b) (STRING_METHOD + tag_of string_method_type b)
+string_method_row b = (counted_row (builtin.StringMethod b), counted_stands (builtin.StringMethod b))
 
-pub number_row : (b : NumberBuiltin) → StandsAt (builtin.Number b) (77 + tag_of number_type b)
-number_row b = counted_stands (builtin.Number b)
+pub left_out_string_method_row : (b : LeftOutStringMethod)
+    → StandsAt (builtin.LeftOutStringMethod b) (LEFT_OUT_STRING_METHOD + tag_of left_out_string_method_type b)
+left_out_string_method_row b =
+    (counted_row (builtin.LeftOutStringMethod b), counted_stands (builtin.LeftOutStringMethod b))
 
-pub boolean_row : (b : BooleanBuiltin) → StandsAt (builtin.Boolean b) (84 + tag_of boolean_type b)
-boolean_row b = counted_stands (builtin.Boolean b)
+pub global_row : (b : GlobalBuiltin) → StandsAt (builtin.Global b) (GLOBAL + tag_of global_type b)
+global_row b = (counted_row (builtin.Global b), counted_stands (builtin.Global b))
 
-pub error_row : (b : ErrorBuiltin) → StandsAt (builtin.Error b) (87 + tag_of error_type b)
-error_row b = counted_stands (builtin.Error b)
+pub number_row : (b : NumberBuiltin) → StandsAt (builtin.Number b) (NUMBER + tag_of number_type b)
+number_row b = (counted_row (builtin.Number b), counted_stands (builtin.Number b))
 
-pub math_row : (b : MathBuiltin) → StandsAt (builtin.Math b) (95 + tag_of math_type b)
-math_row b = counted_stands (builtin.Math b)
+pub boolean_row : (b : BooleanBuiltin) → StandsAt (builtin.Boolean b) (BOOLEAN + tag_of boolean_type b)
+boolean_row b = (counted_row (builtin.Boolean b), counted_stands (builtin.Boolean b))
+
+pub error_row : (b : ErrorBuiltin) → StandsAt (builtin.Error b) (ERROR + tag_of error_type b)
+error_row b = (counted_row (builtin.Error b), counted_stands (builtin.Error b))
+
+pub math_row : (b : MathBuiltin) → StandsAt (builtin.Math b) (MATH + tag_of math_type b)
+math_row b = (counted_row (builtin.Math b), counted_stands (builtin.Math b))
+
+pub ruleset rows =
+    (object_row, function_row, array_row, string_row, string_method_row, left_out_string_method_row, global_row,
+    number_row, boolean_row, error_row, math_row)
 
 -- a row depends on the path alone
 same_row : (a b : Builtin) → name_of a ≡ name_of b → row_of a ≡ row_of b

@@ -1,7 +1,8 @@
 -- The table of builtins: the functions that a script finds when it begins (clause 15), each with its path, its length
 -- and the object of which it is a property. What a call of each does is in the definitions of scripts.
 use Rattle.std.specs.Prelude.{ℕ, List, Option, None, Some, codes}
-use Rattle.jl_value.specs.Intrinsics.{array_prototype, boolean_prototype, console, error_prototype, eval_error_prototype}
+use Rattle.jl_value.specs.Intrinsics.{array_prototype, boolean_prototype, console, error_prototype}
+use Rattle.jl_value.specs.Intrinsics.{eval_error_prototype}
 use Rattle.jl_value.specs.Intrinsics.{function_prototype, global_object, math, number_prototype, object_prototype}
 use Rattle.jl_value.specs.Intrinsics.{range_error_prototype, reference_error_prototype, string_prototype}
 use Rattle.jl_value.specs.Intrinsics.{syntax_error_prototype, type_error_prototype, uri_error_prototype}
@@ -21,6 +22,8 @@ use Rattle.jl_value.specs.declared.builtin_groups.FunctionBuiltin.{FunctionBuilt
 use Rattle.jl_value.specs.declared.builtin_groups.FunctionBuiltin.TheVariants as function_builtin
 use Rattle.jl_value.specs.declared.builtin_groups.GlobalBuiltin.{GlobalBuiltin}
 use Rattle.jl_value.specs.declared.builtin_groups.GlobalBuiltin.TheVariants as global_builtin
+use Rattle.jl_value.specs.declared.builtin_groups.LeftOutStringMethod.{LeftOutStringMethod}
+use Rattle.jl_value.specs.declared.builtin_groups.LeftOutStringMethod.TheVariants as left_out_string_method
 use Rattle.jl_value.specs.declared.builtin_groups.MathBuiltin.{MathBuiltin}
 use Rattle.jl_value.specs.declared.builtin_groups.MathBuiltin.TheVariants as math_builtin
 use Rattle.jl_value.specs.declared.builtin_groups.NumberBuiltin.{NumberBuiltin}
@@ -29,6 +32,8 @@ use Rattle.jl_value.specs.declared.builtin_groups.ObjectBuiltin.{ObjectBuiltin}
 use Rattle.jl_value.specs.declared.builtin_groups.ObjectBuiltin.TheVariants as object_builtin
 use Rattle.jl_value.specs.declared.builtin_groups.StringBuiltin.{StringBuiltin}
 use Rattle.jl_value.specs.declared.builtin_groups.StringBuiltin.TheVariants as string_builtin
+use Rattle.jl_value.specs.declared.builtin_groups.StringMethod.{StringMethod}
+use Rattle.jl_value.specs.declared.builtin_groups.StringMethod.TheVariants as string_method
 
 -- what a script finds of a builtin before it calls it: the path by which traces, records and faults name it, how many
 -- arguments its section names, the object that has it as a property by the last part of its path, and the prototype of
@@ -134,30 +139,41 @@ string_entry string_builtin.Constructor = constructor (codes "String") 1 string_
 string_entry string_builtin.FromCharCode = method (codes "String.fromCharCode") 1 on_string
 string_entry string_builtin.ToString = method (codes "String.prototype.toString") 0 (holders.Object string_prototype)
 string_entry string_builtin.ValueOf = method (codes "String.prototype.valueOf") 0 (holders.Object string_prototype)
-string_entry string_builtin.CharAt = method (codes "String.prototype.charAt") 1 (holders.Object string_prototype)
-string_entry string_builtin.CharCodeAt =
+
+-- the functions of the prototype of String that begin with `this` as a string (15.5.4)
+abbrev pub string_method_entry : StringMethod → Entry
+string_method_entry string_method.CharAt = method (codes "String.prototype.charAt") 1 (holders.Object string_prototype)
+string_method_entry string_method.CharCodeAt =
     method (codes "String.prototype.charCodeAt") 1 (holders.Object string_prototype)
-string_entry string_builtin.Concat = method (codes "String.prototype.concat") 1 (holders.Object string_prototype)
-string_entry string_builtin.IndexOf = method (codes "String.prototype.indexOf") 1 (holders.Object string_prototype)
-string_entry string_builtin.LastIndexOf =
+string_method_entry string_method.Concat = method (codes "String.prototype.concat") 1 (holders.Object string_prototype)
+string_method_entry string_method.IndexOf =
+    method (codes "String.prototype.indexOf") 1 (holders.Object string_prototype)
+string_method_entry string_method.LastIndexOf =
     method (codes "String.prototype.lastIndexOf") 1 (holders.Object string_prototype)
-string_entry string_builtin.Slice = method (codes "String.prototype.slice") 2 (holders.Object string_prototype)
-string_entry string_builtin.Split = method (codes "String.prototype.split") 2 (holders.Object string_prototype)
-string_entry string_builtin.Substring = method (codes "String.prototype.substring") 2 (holders.Object string_prototype)
-string_entry string_builtin.ToLowerCase =
+string_method_entry string_method.Slice = method (codes "String.prototype.slice") 2 (holders.Object string_prototype)
+string_method_entry string_method.Split = method (codes "String.prototype.split") 2 (holders.Object string_prototype)
+string_method_entry string_method.Substring =
+    method (codes "String.prototype.substring") 2 (holders.Object string_prototype)
+string_method_entry string_method.ToLowerCase =
     method (codes "String.prototype.toLowerCase") 0 (holders.Object string_prototype)
-string_entry string_builtin.ToUpperCase =
+string_method_entry string_method.ToUpperCase =
     method (codes "String.prototype.toUpperCase") 0 (holders.Object string_prototype)
-string_entry string_builtin.Trim = method (codes "String.prototype.trim") 0 (holders.Object string_prototype)
-string_entry string_builtin.ToLocaleLowerCase =
+string_method_entry string_method.Trim = method (codes "String.prototype.trim") 0 (holders.Object string_prototype)
+
+-- those that are left out
+abbrev pub left_out_string_method_entry : LeftOutStringMethod → Entry
+left_out_string_method_entry left_out_string_method.ToLocaleLowerCase =
     method (codes "String.prototype.toLocaleLowerCase") 0 (holders.Object string_prototype)
-string_entry string_builtin.ToLocaleUpperCase =
+left_out_string_method_entry left_out_string_method.ToLocaleUpperCase =
     method (codes "String.prototype.toLocaleUpperCase") 0 (holders.Object string_prototype)
-string_entry string_builtin.LocaleCompare =
+left_out_string_method_entry left_out_string_method.LocaleCompare =
     method (codes "String.prototype.localeCompare") 1 (holders.Object string_prototype)
-string_entry string_builtin.Replace = method (codes "String.prototype.replace") 2 (holders.Object string_prototype)
-string_entry string_builtin.Match = method (codes "String.prototype.match") 1 (holders.Object string_prototype)
-string_entry string_builtin.Search = method (codes "String.prototype.search") 1 (holders.Object string_prototype)
+left_out_string_method_entry left_out_string_method.Replace =
+    method (codes "String.prototype.replace") 2 (holders.Object string_prototype)
+left_out_string_method_entry left_out_string_method.Match =
+    method (codes "String.prototype.match") 1 (holders.Object string_prototype)
+left_out_string_method_entry left_out_string_method.Search =
+    method (codes "String.prototype.search") 1 (holders.Object string_prototype)
 
 -- printing, and the functions of the global object (15.1.2)
 abbrev pub global_entry : GlobalBuiltin → Entry
@@ -213,6 +229,8 @@ entry_of (builtin.Object b) = object_entry b
 entry_of (builtin.Function b) = function_entry b
 entry_of (builtin.Array b) = array_entry b
 entry_of (builtin.String b) = string_entry b
+entry_of (builtin.StringMethod m) = string_method_entry m
+entry_of (builtin.LeftOutStringMethod m) = left_out_string_method_entry m
 entry_of (builtin.Global b) = global_entry b
 entry_of (builtin.Number b) = number_entry b
 entry_of (builtin.Boolean b) = boolean_entry b

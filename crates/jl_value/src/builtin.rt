@@ -3,8 +3,8 @@ ghost use Rattle.jl_value.specs.Builtins.{builtins, entry_of, name_of};
 ghost use Rattle.jl_value.specs.BuiltinPlaces.{bound, place_of_builtin, place_of_row, row_of};
 
 use crate::builtin_groups::{
-    ArrayBuiltin, BooleanBuiltin, ErrorBuiltin, FunctionBuiltin, GlobalBuiltin, MathBuiltin,
-    NumberBuiltin, ObjectBuiltin, StringBuiltin,
+    ArrayBuiltin, BooleanBuiltin, ErrorBuiltin, FunctionBuiltin, GlobalBuiltin,
+    LeftOutStringMethod, MathBuiltin, NumberBuiltin, ObjectBuiltin, StringBuiltin, StringMethod,
 };
 use crate::builtin_table::BUILTINS;
 use crate::object::ObjId;
@@ -16,6 +16,8 @@ pub enum Builtin {
     Function(FunctionBuiltin),
     Array(ArrayBuiltin),
     String(StringBuiltin),
+    StringMethod(StringMethod),
+    LeftOutStringMethod(LeftOutStringMethod),
     Global(GlobalBuiltin),
     Number(NumberBuiltin),
     Boolean(BooleanBuiltin),
@@ -40,7 +42,11 @@ const ARRAY: u16 = FUNCTION + FunctionBuiltin::Thrower as u16 + 1;
 
 const STRING: u16 = ARRAY + ArrayBuiltin::ReduceRight as u16 + 1;
 
-const GLOBAL: u16 = STRING + StringBuiltin::Search as u16 + 1;
+const STRING_METHOD: u16 = STRING + StringBuiltin::ValueOf as u16 + 1;
+
+const LEFT_OUT_STRING_METHOD: u16 = STRING_METHOD + StringMethod::Trim as u16 + 1;
+
+const GLOBAL: u16 = LEFT_OUT_STRING_METHOD + LeftOutStringMethod::Search as u16 + 1;
 
 const NUMBER: u16 = GLOBAL + GlobalBuiltin::IsFinite as u16 + 1;
 
@@ -86,7 +92,7 @@ impl Builtin {
     }
 
     /// Its row in the table, from 0.
-    #[tactic(auto, using(crate::proofs::Rows::object_row, crate::proofs::Rows::function_row, crate::proofs::Rows::array_row, crate::proofs::Rows::string_row, crate::proofs::Rows::global_row, crate::proofs::Rows::number_row, crate::proofs::Rows::boolean_row, crate::proofs::Rows::error_row, crate::proofs::Rows::math_row))]
+    #[tactic(auto, using(crate::proofs::Rows::rows))]
     pub fn row(self) -> u16
         ensures same { result ≡ row_of self }
         ensures there { slice_get builtins result ≡ Some self }
@@ -96,6 +102,8 @@ impl Builtin {
             Builtin::Function(builtin) => FUNCTION + builtin as u16,
             Builtin::Array(builtin) => ARRAY + builtin as u16,
             Builtin::String(builtin) => STRING + builtin as u16,
+            Builtin::StringMethod(builtin) => STRING_METHOD + builtin as u16,
+            Builtin::LeftOutStringMethod(builtin) => LEFT_OUT_STRING_METHOD + builtin as u16,
             Builtin::Global(builtin) => GLOBAL + builtin as u16,
             Builtin::Number(builtin) => NUMBER + builtin as u16,
             Builtin::Boolean(builtin) => BOOLEAN + builtin as u16,

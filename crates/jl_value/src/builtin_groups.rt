@@ -68,13 +68,18 @@ pub enum ArrayBuiltin {
     ReduceRight,
 }
 
-/// A function of String or of its prototype (15.5).
+/// String, `String.fromCharCode`, and what gives the string that a String object stands for (15.5).
 #[derive(Clone, Copy, PartialEq, Eq, Debug)]
 pub enum StringBuiltin {
     Constructor,
     FromCharCode,
     ToString,
     ValueOf,
+}
+
+/// A function of the prototype of String that begins with `this` as a string (15.5.4).
+#[derive(Clone, Copy, PartialEq, Eq, Debug)]
+pub enum StringMethod {
     CharAt,
     CharCodeAt,
     Concat,
@@ -86,6 +91,11 @@ pub enum StringBuiltin {
     ToLowerCase,
     ToUpperCase,
     Trim,
+}
+
+/// A function of the prototype of String that is left out (15.5.4).
+#[derive(Clone, Copy, PartialEq, Eq, Debug)]
+pub enum LeftOutStringMethod {
     ToLocaleLowerCase,
     ToLocaleUpperCase,
     LocaleCompare,

@@ -1,13 +1,16 @@
 //! The table of builtins (clause 15): what a script finds of each before it calls it.
 ghost use Rattle.std.specs.Prelude.{◌≡◌};
-ghost use Rattle.jl_value.specs.Builtins.{array_entry, boolean_entry, entry_of, error_entry, function_entry, global_entry};
-ghost use Rattle.jl_value.specs.Builtins.{math_entry, number_entry, object_entry, string_entry};
+ghost use Rattle.jl_value.specs.Builtins.{array_entry, boolean_entry, entry_of, error_entry, function_entry};
+ghost use Rattle.jl_value.specs.Builtins.{global_entry};
+ghost use Rattle.jl_value.specs.Builtins.{left_out_string_method_entry, math_entry, number_entry, object_entry};
+ghost use Rattle.jl_value.specs.Builtins.{string_entry};
+ghost use Rattle.jl_value.specs.Builtins.{string_method_entry};
 ghost use Rattle.jl_value.specs.inner.Entries.{view_entry};
 
 use crate::builtin::{Builtin, Holder};
 use crate::builtin_groups::{
-    ArrayBuiltin, BooleanBuiltin, ErrorBuiltin, FunctionBuiltin, GlobalBuiltin, MathBuiltin,
-    NumberBuiltin, ObjectBuiltin, StringBuiltin,
+    ArrayBuiltin, BooleanBuiltin, ErrorBuiltin, FunctionBuiltin, GlobalBuiltin,
+    LeftOutStringMethod, MathBuiltin, NumberBuiltin, ObjectBuiltin, StringBuiltin, StringMethod,
 };
 use crate::object::ObjId;
 
@@ -68,23 +71,23 @@ pub(crate) const BUILTINS: [Builtin; 102] = [
     Builtin::String(StringBuiltin::FromCharCode),
     Builtin::String(StringBuiltin::ToString),
     Builtin::String(StringBuiltin::ValueOf),
-    Builtin::String(StringBuiltin::CharAt),
-    Builtin::String(StringBuiltin::CharCodeAt),
-    Builtin::String(StringBuiltin::Concat),
-    Builtin::String(StringBuiltin::IndexOf),
-    Builtin::String(StringBuiltin::LastIndexOf),
-    Builtin::String(StringBuiltin::Slice),
-    Builtin::String(StringBuiltin::Split),
-    Builtin::String(StringBuiltin::Substring),
-    Builtin::String(StringBuiltin::ToLowerCase),
-    Builtin::String(StringBuiltin::ToUpperCase),
-    Builtin::String(StringBuiltin::Trim),
-    Builtin::String(StringBuiltin::ToLocaleLowerCase),
-    Builtin::String(StringBuiltin::ToLocaleUpperCase),
-    Builtin::String(StringBuiltin::LocaleCompare),
-    Builtin::String(StringBuiltin::Replace),
-    Builtin::String(StringBuiltin::Match),
-    Builtin::String(StringBuiltin::Search),
+    Builtin::StringMethod(StringMethod::CharAt),
+    Builtin::StringMethod(StringMethod::CharCodeAt),
+    Builtin::StringMethod(StringMethod::Concat),
+    Builtin::StringMethod(StringMethod::IndexOf),
+    Builtin::StringMethod(StringMethod::LastIndexOf),
+    Builtin::StringMethod(StringMethod::Slice),
+    Builtin::StringMethod(StringMethod::Split),
+    Builtin::StringMethod(StringMethod::Substring),
+    Builtin::StringMethod(StringMethod::ToLowerCase),
+    Builtin::StringMethod(StringMethod::ToUpperCase),
+    Builtin::StringMethod(StringMethod::Trim),
+    Builtin::LeftOutStringMethod(LeftOutStringMethod::ToLocaleLowerCase),
+    Builtin::LeftOutStringMethod(LeftOutStringMethod::ToLocaleUpperCase),
+    Builtin::LeftOutStringMethod(LeftOutStringMethod::LocaleCompare),
+    Builtin::LeftOutStringMethod(LeftOutStringMethod::Replace),
+    Builtin::LeftOutStringMethod(LeftOutStringMethod::Match),
+    Builtin::LeftOutStringMethod(LeftOutStringMethod::Search),
     Builtin::Global(GlobalBuiltin::Print),
     Builtin::Global(GlobalBuiltin::ConsoleLog),
     Builtin::Global(GlobalBuiltin::ParseInt),
@@ -258,31 +261,49 @@ fn string_entry(builtin: StringBuiltin) -> Entry
         StringBuiltin::FromCharCode => method!("String.fromCharCode", 1, STRING),
         StringBuiltin::ToString => method!("String.prototype.toString", 0, holder),
         StringBuiltin::ValueOf => method!("String.prototype.valueOf", 0, holder),
-        StringBuiltin::CharAt => method!("String.prototype.charAt", 1, holder),
-        StringBuiltin::CharCodeAt => method!("String.prototype.charCodeAt", 1, holder),
-        StringBuiltin::Concat => method!("String.prototype.concat", 1, holder),
-        StringBuiltin::IndexOf => method!("String.prototype.indexOf", 1, holder),
-        StringBuiltin::LastIndexOf => method!("String.prototype.lastIndexOf", 1, holder),
-        StringBuiltin::Slice => method!("String.prototype.slice", 2, holder),
-        StringBuiltin::Split => method!("String.prototype.split", 2, holder),
-        StringBuiltin::Substring => method!("String.prototype.substring", 2, holder),
-        StringBuiltin::ToLowerCase => method!("String.prototype.toLowerCase", 0, holder),
-        StringBuiltin::ToUpperCase => method!("String.prototype.toUpperCase", 0, holder),
-        StringBuiltin::Trim => method!("String.prototype.trim", 0, holder),
-        StringBuiltin::ToLocaleLowerCase => method!(
+    }
+}
+
+/// The entry of a builtin of section 15.5.4 that begins with `this` as a string.
+fn string_method_entry(method: StringMethod) -> Entry
+    ensures { view_entry result ≡ string_method_entry method }
+{
+    let holder = Holder::Object(ObjId::STRING_PROTOTYPE);
+    match method {
+        StringMethod::CharAt => method!("String.prototype.charAt", 1, holder),
+        StringMethod::CharCodeAt => method!("String.prototype.charCodeAt", 1, holder),
+        StringMethod::Concat => method!("String.prototype.concat", 1, holder),
+        StringMethod::IndexOf => method!("String.prototype.indexOf", 1, holder),
+        StringMethod::LastIndexOf => method!("String.prototype.lastIndexOf", 1, holder),
+        StringMethod::Slice => method!("String.prototype.slice", 2, holder),
+        StringMethod::Split => method!("String.prototype.split", 2, holder),
+        StringMethod::Substring => method!("String.prototype.substring", 2, holder),
+        StringMethod::ToLowerCase => method!("String.prototype.toLowerCase", 0, holder),
+        StringMethod::ToUpperCase => method!("String.prototype.toUpperCase", 0, holder),
+        StringMethod::Trim => method!("String.prototype.trim", 0, holder),
+    }
+}
+
+/// The entry of a builtin of section 15.5.4 that is left out.
+fn left_out_string_method_entry(method: LeftOutStringMethod) -> Entry
+    ensures { view_entry result ≡ left_out_string_method_entry method }
+{
+    let holder = Holder::Object(ObjId::STRING_PROTOTYPE);
+    match method {
+        LeftOutStringMethod::ToLocaleLowerCase => method!(
             "String.prototype.toLocaleLowerCase",
             0,
             holder
         ),
-        StringBuiltin::ToLocaleUpperCase => method!(
+        LeftOutStringMethod::ToLocaleUpperCase => method!(
             "String.prototype.toLocaleUpperCase",
             0,
             holder
         ),
-        StringBuiltin::LocaleCompare => method!("String.prototype.localeCompare", 1, holder),
-        StringBuiltin::Replace => method!("String.prototype.replace", 2, holder),
-        StringBuiltin::Match => method!("String.prototype.match", 1, holder),
-        StringBuiltin::Search => method!("String.prototype.search", 1, holder),
+        LeftOutStringMethod::LocaleCompare => method!("String.prototype.localeCompare", 1, holder),
+        LeftOutStringMethod::Replace => method!("String.prototype.replace", 2, holder),
+        LeftOutStringMethod::Match => method!("String.prototype.match", 1, holder),
+        LeftOutStringMethod::Search => method!("String.prototype.search", 1, holder),
     }
 }
 
@@ -376,6 +397,8 @@ impl Builtin {
             Builtin::Function(builtin) => function_entry(builtin),
             Builtin::Array(builtin) => array_entry(builtin),
             Builtin::String(builtin) => string_entry(builtin),
+            Builtin::StringMethod(method) => string_method_entry(method),
+            Builtin::LeftOutStringMethod(method) => left_out_string_method_entry(method),
             Builtin::Global(builtin) => global_entry(builtin),
             Builtin::Number(builtin) => number_entry(builtin),
             Builtin::Boolean(builtin) => boolean_entry(builtin),

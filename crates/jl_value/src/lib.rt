@@ -15,8 +15,8 @@ mod value;
 
 pub use builtin::{Builtin, Holder};
 pub use builtin_groups::{
-    ArrayBuiltin, BooleanBuiltin, ErrorBuiltin, FunctionBuiltin, GlobalBuiltin, MathBuiltin,
-    NumberBuiltin, ObjectBuiltin, StringBuiltin,
+    ArrayBuiltin, BooleanBuiltin, ErrorBuiltin, FunctionBuiltin, GlobalBuiltin,
+    LeftOutStringMethod, MathBuiltin, NumberBuiltin, ObjectBuiltin, StringBuiltin, StringMethod,
 };
 pub use ending::{Completion, Fault, Outcome};
 pub use error_kind::ErrorKind;

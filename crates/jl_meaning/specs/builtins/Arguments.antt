@@ -15,8 +15,11 @@ use Rattle.jl_meaning.specs.Getting.{is_callable}
 use Rattle.jl_meaning.specs.Parts.{give, look, ◌>>=◌, Algorithm, Call, Unsupported}
 
 -- an argument; one that isn't given is undefined
+abbrev pub argument_at : List Value → ℕ → Value
+argument_at args i = slice_index_or args i value.Undefined
+
 abbrev pub argument : Call → ℕ → Value
-argument c i = slice_index_or c.args i value.Undefined
+argument c i = argument_at c.args i
 
 -- a builtin that is there, and is left out
 abbrev pub unsupported : Builtin → Call → Algorithm Value

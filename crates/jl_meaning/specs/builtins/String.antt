@@ -10,6 +10,8 @@ use Rattle.jl_text.specs.Search.{first_place, last_place}
 use Rattle.jl_value.specs.declared.builtin.Builtin.TheVariants as builtin
 use Rattle.jl_value.specs.declared.builtin_groups.StringBuiltin.{StringBuiltin}
 use Rattle.jl_value.specs.declared.builtin_groups.StringBuiltin.TheVariants as string_builtin
+use Rattle.jl_value.specs.declared.builtin_groups.StringMethod.{StringMethod}
+use Rattle.jl_value.specs.declared.builtin_groups.StringMethod.TheVariants as string_method
 use Rattle.jl_value.specs.declared.object.Class.{Class}
 use Rattle.jl_value.specs.declared.object.Class.TheVariants as class
 use Rattle.jl_value.specs.declared.value.Value.{Value}
@@ -23,8 +25,8 @@ use Rattle.jl_meaning.specs.Conversions.{new_string_object, to_integer, to_numbe
 use Rattle.jl_meaning.specs.Errors.{string_within}
 use Rattle.jl_meaning.specs.FunctionObjects.{whole}
 use Rattle.jl_meaning.specs.Parts.{give, look, ◌>>=◌, Algorithm, Call, Unsupported}
-use Rattle.jl_meaning.specs.builtins.Arguments.{argument, give_object, give_string, need_receiver, string_of_this}
-use Rattle.jl_meaning.specs.builtins.Arguments.{unless_undefined, unsupported}
+use Rattle.jl_meaning.specs.builtins.Arguments.{argument_at, give_object, give_string, need_receiver, string_of_this}
+use Rattle.jl_meaning.specs.builtins.Arguments.{unless_undefined}
 use Rattle.jl_meaning.specs.builtins.Elements.{add_in_turns, clamp, index_or_none, relative_index, to_end}
 use Rattle.jl_meaning.specs.forms.Literals.{new_array}
 
@@ -81,24 +83,17 @@ abbrev pub unit_at_position : List ℕ → ℤ → Option ℕ
 unit_at_position units (pos n) = slice_get units n
 unit_at_position units (negsuc n) = None
 
--- `this` as a string, and the unit of it that an argument says (15.5.4.4, 15.5.4.5)
-abbrev pub unit_said : Call → Algorithm (Option ℕ)
-unit_said c = do
-  units ← string_of_this c
-  position ← to_integer (argument c 0)
-  give (unit_at_position units position)
-
--- String.prototype.charAt(pos) (15.5.4.4)
-abbrev pub string_char_at : Call → Algorithm Value
-string_char_at c = do
-  unit ← unit_said c
-  give_string (option_map_or (λ u. u ∷ []) unit [])
+-- String.prototype.charAt(pos) (15.5.4.4), of `this` as a string and the arguments, as all that follow
+abbrev pub string_char_at : List ℕ → List Value → Algorithm Value
+string_char_at units args = do
+  position ← to_integer (argument_at args 0)
+  give_string (option_map_or (λ u. u ∷ []) (unit_at_position units position) [])
 
 -- String.prototype.charCodeAt(pos) (15.5.4.5)
-abbrev pub string_char_code_at : Call → Algorithm Value
-string_char_code_at c = do
-  unit ← unit_said c
-  give (option_map_or whole unit (value.Num None))
+abbrev pub string_char_code_at : List ℕ → List Value → Algorithm Value
+string_char_code_at units args = do
+  position ← to_integer (argument_at args 0)
+  give (option_map_or whole (unit_at_position units position) (value.Num None))
 
 -- these as strings after what is there so far, one turn for each (15.5.4.6, step 5)
 abbrev pub concat_all : (so_far : List ℕ) → List Value → Algorithm (List ℕ)
@@ -109,18 +104,16 @@ concat_all so_far (v ∷ vs) = Step do
   concat_all more vs
 
 -- String.prototype.concat(string1, ..) (15.5.4.6)
-abbrev pub string_concat : Call → Algorithm Value
-string_concat c = do
-  units ← string_of_this c
-  all ← concat_all units c.args
+abbrev pub string_concat : List ℕ → List Value → Algorithm Value
+string_concat units args = do
+  all ← concat_all units args
   give_string all
 
 -- String.prototype.indexOf(searchString, position) (15.5.4.7)
-abbrev pub string_index_of : Call → Algorithm Value
-string_index_of c = do
-  units ← string_of_this c
-  part ← to_string (argument c 0)
-  position ← to_integer (argument c 1)
+abbrev pub string_index_of : List ℕ → List Value → Algorithm Value
+string_index_of units args = do
+  part ← to_string (argument_at args 0)
+  position ← to_integer (argument_at args 1)
   give (index_or_none (first_place units part (clamp position (length units))))
 
 -- where a search for the last place begins: NaN stands for an infinity (15.5.4.8, steps 5 to 7)
@@ -129,19 +122,17 @@ last_start None length = length
 last_start (Some z) length = clamp z length
 
 -- String.prototype.lastIndexOf(searchString, position) (15.5.4.8)
-abbrev pub string_last_index_of : Call → Algorithm Value
-string_last_index_of c = do
-  units ← string_of_this c
-  part ← to_string (argument c 0)
-  n ← to_number (argument c 1)
+abbrev pub string_last_index_of : List ℕ → List Value → Algorithm Value
+string_last_index_of units args = do
+  part ← to_string (argument_at args 0)
+  n ← to_number (argument_at args 1)
   give (index_or_none (last_place units part (last_start n (length units))))
 
 -- String.prototype.slice(start, end) (15.5.4.13)
-abbrev pub string_slice : Call → Algorithm Value
-string_slice c = do
-  units ← string_of_this c
-  start ← to_integer (argument c 0)
-  end ← to_end (argument c 1) (length units)
+abbrev pub string_slice : List ℕ → List Value → Algorithm Value
+string_slice units args = do
+  start ← to_integer (argument_at args 0)
+  end ← to_end (argument_at args 1) (length units)
   give_string (slice_range units (relative_index start (length units)) (relative_index end (length units)))
 
 -- the units from the smaller of two places up to the greater
@@ -149,11 +140,10 @@ abbrev pub between : List ℕ → (a b : ℕ) → List ℕ
 between units a b = slice_range units (min a b) (max a b)
 
 -- String.prototype.substring(start, end) (15.5.4.15)
-abbrev pub string_substring : Call → Algorithm Value
-string_substring c = do
-  units ← string_of_this c
-  start ← to_integer (argument c 0)
-  end ← to_end (argument c 1) (length units)
+abbrev pub string_substring : List ℕ → List Value → Algorithm Value
+string_substring units args = do
+  start ← to_integer (argument_at args 0)
+  end ← to_end (argument_at args 1) (length units)
   give_string (between units (clamp start (length units)) (clamp end (length units)))
 
 -- the pieces between the places of a separator that isn't empty (15.5.4.14, steps 12 to 14): `piece` has the units
@@ -177,23 +167,21 @@ pieces_between v units = unless_undefined (units ∷ []) (λ v. do
   give (pieces separator units)) v
 
 -- String.prototype.split(separator, limit) (15.5.4.14), one turn for each piece
-abbrev pub string_split : Call → Algorithm Value
-string_split c = do
-  units ← string_of_this c
+abbrev pub string_split : List ℕ → List Value → Algorithm Value
+string_split units args = do
   array ← new_array
-  limit ← unless_undefined 4294967295 to_uint32 (argument c 1)
-  parts ← pieces_between (argument c 0) units
+  limit ← unless_undefined 4294967295 to_uint32 (argument_at args 1)
+  parts ← pieces_between (argument_at args 0) units
   _ ← add_in_turns array 0 (map (λ part. value.Text part) (take limit parts))
   give_object array
 
 abbrev pub is_past_ascii : ℕ → Bool
 is_past_ascii u = nat_lt 127 u
 
--- the string with each unit in the other case, where all units are in ASCII
-abbrev pub in_case : StringBuiltin → (ℕ → ℕ) → Call → Algorithm Value
-in_case which f c = do
-  units ← string_of_this c
-  if list_any is_past_ascii units then Fail (Unsupported (builtin.String which)) else give_string (map f units)
+-- each unit in the other case, where all are in ASCII
+abbrev pub in_case : StringMethod → (ℕ → ℕ) → List ℕ → Algorithm Value
+in_case which f units =
+    if list_any is_past_ascii units then Fail (Unsupported (builtin.StringMethod which)) else give_string (map f units)
 
 abbrev pub lower : ℕ → ℕ
 lower u = if nat_le 65 u && nat_le u 90 then u + 32 else u
@@ -202,39 +190,40 @@ abbrev pub upper : ℕ → ℕ
 upper u = if nat_le 97 u && nat_le u 122 then u - 32 else u
 
 -- String.prototype.toLowerCase() (15.5.4.16)
-abbrev pub string_to_lower_case : Call → Algorithm Value
-string_to_lower_case c = in_case string_builtin.ToLowerCase lower c
+abbrev pub string_to_lower_case : List ℕ → Algorithm Value
+string_to_lower_case units = in_case string_method.ToLowerCase lower units
 
 -- String.prototype.toUpperCase() (15.5.4.18)
-abbrev pub string_to_upper_case : Call → Algorithm Value
-string_to_upper_case c = in_case string_builtin.ToUpperCase upper c
+abbrev pub string_to_upper_case : List ℕ → Algorithm Value
+string_to_upper_case units = in_case string_method.ToUpperCase upper units
 
 -- String.prototype.trim() (15.5.4.20)
-abbrev pub string_trim : Call → Algorithm Value
-string_trim c = do
-  units ← string_of_this c
-  give_string (trim units)
+abbrev pub string_trim : List ℕ → Algorithm Value
+string_trim units = give_string (trim units)
 
--- what a call of each does
+-- what a method does with `this` as a string, and with its arguments
+abbrev pub method_of_string : StringMethod → List ℕ → List Value → Algorithm Value
+method_of_string string_method.CharAt units args = string_char_at units args
+method_of_string string_method.CharCodeAt units args = string_char_code_at units args
+method_of_string string_method.Concat units args = string_concat units args
+method_of_string string_method.IndexOf units args = string_index_of units args
+method_of_string string_method.LastIndexOf units args = string_last_index_of units args
+method_of_string string_method.Slice units args = string_slice units args
+method_of_string string_method.Split units args = string_split units args
+method_of_string string_method.Substring units args = string_substring units args
+method_of_string string_method.ToLowerCase units args = string_to_lower_case units
+method_of_string string_method.ToUpperCase units args = string_to_upper_case units
+method_of_string string_method.Trim units args = string_trim units
+
+-- what a call of a method does, which begins with `this` as a string
+abbrev pub string_method_algorithm : StringMethod → Call → Algorithm Value
+string_method_algorithm method c = do
+  units ← string_of_this c
+  method_of_string method units c.args
+
+-- what a call of each of the others does
 abbrev pub string_algorithm : StringBuiltin → Call → Algorithm Value
 string_algorithm string_builtin.Constructor c = string_constructor c
 string_algorithm string_builtin.FromCharCode c = string_from_char_code c
 string_algorithm string_builtin.ToString c = string_value c
 string_algorithm string_builtin.ValueOf c = string_value c
-string_algorithm string_builtin.CharAt c = string_char_at c
-string_algorithm string_builtin.CharCodeAt c = string_char_code_at c
-string_algorithm string_builtin.Concat c = string_concat c
-string_algorithm string_builtin.IndexOf c = string_index_of c
-string_algorithm string_builtin.LastIndexOf c = string_last_index_of c
-string_algorithm string_builtin.Slice c = string_slice c
-string_algorithm string_builtin.Split c = string_split c
-string_algorithm string_builtin.Substring c = string_substring c
-string_algorithm string_builtin.ToLowerCase c = string_to_lower_case c
-string_algorithm string_builtin.ToUpperCase c = string_to_upper_case c
-string_algorithm string_builtin.Trim c = string_trim c
-string_algorithm string_builtin.ToLocaleLowerCase c = unsupported (builtin.String string_builtin.ToLocaleLowerCase) c
-string_algorithm string_builtin.ToLocaleUpperCase c = unsupported (builtin.String string_builtin.ToLocaleUpperCase) c
-string_algorithm string_builtin.LocaleCompare c = unsupported (builtin.String string_builtin.LocaleCompare) c
-string_algorithm string_builtin.Replace c = unsupported (builtin.String string_builtin.Replace) c
-string_algorithm string_builtin.Match c = unsupported (builtin.String string_builtin.Match) c
-string_algorithm string_builtin.Search c = unsupported (builtin.String string_builtin.Search) c

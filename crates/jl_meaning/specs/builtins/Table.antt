@@ -19,7 +19,7 @@ use Rattle.jl_meaning.specs.builtins.Global.{global_algorithm}
 use Rattle.jl_meaning.specs.builtins.Math.{math_algorithm}
 use Rattle.jl_meaning.specs.builtins.Number.{number_algorithm}
 use Rattle.jl_meaning.specs.builtins.Object.{object_algorithm}
-use Rattle.jl_meaning.specs.builtins.String.{string_algorithm}
+use Rattle.jl_meaning.specs.builtins.String.{string_algorithm, string_method_algorithm}
 
 -- Array and the functions of its prototype: what a call of each does
 abbrev pub array_algorithm : ArrayBuiltin → Call → Algorithm Value
@@ -53,6 +53,8 @@ builtin_algorithm names (builtin.Object b) c = object_algorithm b c
 builtin_algorithm names (builtin.Function b) c = function_algorithm names b c
 builtin_algorithm names (builtin.Array b) c = array_algorithm b c
 builtin_algorithm names (builtin.String b) c = string_algorithm b c
+builtin_algorithm names (builtin.StringMethod m) c = string_method_algorithm m c
+builtin_algorithm names (builtin.LeftOutStringMethod m) c = unsupported (builtin.LeftOutStringMethod m) c
 builtin_algorithm names (builtin.Global b) c = global_algorithm b c
 builtin_algorithm names (builtin.Number b) c = number_algorithm b c
 builtin_algorithm names (builtin.Boolean b) c = boolean_algorithm b c

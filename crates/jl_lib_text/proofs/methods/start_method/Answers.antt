@@ -1,9 +1,9 @@
 use Rattle.std.proofs.Common.{◌∙◌}
 use Rattle.std.proofs.lemmas.Result.{IfOk-weaker}
-use Rattle.jl_progress.specs.Strings.{method_of_string}
+use Rattle.jl_meaning.specs.builtins.String.{method_of_string}
 use Rattle.jl_state.specs.Words.{call_of}
 use Rattle.jl_lib_text.proofs.Called.{method_waits, refuses_null, refuses_undefined}
-use Rattle.jl_lib_text.proofs.methods.call_method.Goals as goal
+use Rattle.jl_lib_text.proofs.methods.start_method.Goals as goal
 
 pub returns-in-Undefined-clause-leads : goal.returns-in-Undefined-clause-leads
 returns-in-Undefined-clause-leads c =
