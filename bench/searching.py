@@ -6,17 +6,20 @@ twice as great.
 usage: bench/searching.py [PROGRAM]      JLINT names the program, or the argument, or else the one of this clone is taken
 
 A script makes as many searches as go over 2^22 units together, and what the same script takes without a search is taken
-off. A search is judged by the mean ratio of doubling, from the smallest n to the greatest: what is linear gives about 2,
-what is quadratic about 4. Where one gives more than 2.2 or a script takes longer than a minute, the exit status is 1."""
+off. Each of the two is run eight times, all sizes in turn, and its fastest run counts, so that what else the machine does
+for a while spoils no size. A search is judged by the mean ratio of doubling, from the smallest n to the greatest: what is
+linear gives about 2, what is quadratic about 4. Where one gives more than 2.2 or a script takes longer than a minute, the
+exit status is 1."""
 
 import sys
 
-from measuring import BUDGET, least, named_program
+from measuring import BUDGET, named_program, once
 
 LIMIT = 2.2
 SIZES = [2 ** power for power in range(15, 20)]
 UNITS = 2 ** 22
 SECONDS = 60.0
+ROUNDS = 8
 # the text, of 2n units, and the part, of n
 FORMS = [
     ("b at the end", "'a'", "t.slice(0, n - 1) + 'b'"),
@@ -45,7 +48,7 @@ print(t.length, p.length, found);
 def seconds(command, n, turns, form, call):
     """What a script takes that makes so many searches. Each of them finds nothing, so that their sum is known."""
     _, text, part = form
-    ran = least(command, SCRIPT.format(n=n, turns=turns, text=text, part=part, call=call[1]))
+    ran = once(command, SCRIPT.format(n=n, turns=turns, text=text, part=part, call=call[1]))
     due = f"{2 * n} {n} {turns if call[0] == 'split' else -turns}"
     if ran.output.split("\n", 1)[0] != due:
         sys.exit(f"{call[0]}, {form[0]}, {n}: {ran.output} in place of {due}")
@@ -54,14 +57,15 @@ def seconds(command, n, turns, form, call):
 
 def costs(command, form, call):
     """The milliseconds of a search at each size, up to one at which a script takes too long."""
-    found = []
-    for n in SIZES:
-        turns = UNITS // n
-        spent = seconds(command, n, turns, form, call)
-        found.append(max(1e3 * (spent - seconds(command, n, 0, form, call)) / turns, 1e-3))
-        if spent > SECONDS:
-            break
-    return found
+    sizes, fastest = SIZES, {}
+    for _ in range(ROUNDS):
+        for n in sizes:
+            pair = [seconds(command, n, turns, form, call) for turns in (UNITS // n, 0)]
+            fastest[n] = [min(both) for both in zip(pair, fastest.get(n, pair))]
+            if pair[0] > SECONDS:
+                sizes = [it for it in sizes if it <= n]
+                break
+    return [max(1e3 * (fastest[n][0] - fastest[n][1]) * n / UNITS, 1e-3) for n in sizes]
 
 
 def main():

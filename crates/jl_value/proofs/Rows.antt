@@ -218,9 +218,19 @@ error_row b = (counted_row (builtin.Error b), counted_stands (builtin.Error b))
 pub math_row : (b : MathBuiltin) → StandsAt (builtin.Math b) (MATH + tag_of math_type b)
 math_row b = (counted_row (builtin.Math b), counted_stands (builtin.Math b))
 
-pub ruleset rows =
-    (object_row, function_row, array_row, string_row, string_method_row, left_out_string_method_row, global_row,
-    number_row, boolean_row, error_row, math_row)
+pub ruleset rows = (
+  object_row,
+  function_row,
+  array_row,
+  string_row,
+  string_method_row,
+  left_out_string_method_row,
+  global_row,
+  number_row,
+  boolean_row,
+  error_row,
+  math_row,
+)
 
 -- a row depends on the path alone
 same_row : (a b : Builtin) → name_of a ≡ name_of b → row_of a ≡ row_of b
