@@ -24,13 +24,13 @@ use Rattle.jl_meaning.specs.Defining.{define_own_property, define_with_number, l
 use Rattle.jl_meaning.specs.Errors.{throw_error}
 use Rattle.jl_meaning.specs.Parts.{give, or_fault, ◌>>=◌, Algorithm, NumberOutside}
 use Rattle.jl_state.specs.AlgorithmFrames.{after_define, algorithm_after, data_change, define_length}
-use Rattle.jl_state.specs.Rest.{Works}
+use Rattle.jl_state.specs.Rest.{RefinesAlgorithm}
 use Rattle.jl_state.specs.Steps.{AlgorithmWaits}
 use Rattle.jl_state.specs.declared.act.Act.{Act}
 use Rattle.jl_state.specs.declared.act.Act.TheVariants as act
 use Rattle.jl_state.specs.declared.algorithm_frame.AlgorithmFrame.TheVariants as algorithm
 use Rattle.jl_state.specs.declared.algorithm_frame.Attributes.{Attributes}
-use Rattle.jl_state.specs.declared.algorithm_frame.WrittenBy.{WrittenBy}
+use Rattle.jl_state.specs.declared.algorithm_frame.AfterDefine.{AfterDefine}
 use Rattle.jl_state.specs.declared.state.State.{State}
 use Rattle.jl_algorithm.specs.inner.Lengths.{is_array_length}
 use Rattle.jl_meaning.proofs.Binds.{bind_assoc}
@@ -40,44 +40,46 @@ use Rattle.jl_algorithm.proofs.Throwing.{works_left_out}
 -- numbers
 
 pub outside : (s : State) (v : Value) (k : Number → Algorithm Value) → number_of_value v ≡ None
-    → Works s (or_fault NumberOutside (number_of_value v) >>= k) s (act.Fault fault.NumberOutside)
+    → RefinesAlgorithm s (or_fault NumberOutside (number_of_value v) >>= k) s (act.Fault fault.NumberOutside)
 outside s v k none =
-    subst (λ o. Works s (or_fault NumberOutside o >>= k) s (act.Fault fault.NumberOutside)) (sym none)
+    subst (λ o. RefinesAlgorithm s (or_fault NumberOutside o >>= k) s (act.Fault fault.NumberOutside)) (sym none)
     (record { is = λ kept told. refl })
 
 is_number : (s : State) (v : Value) (n : Number) (k : Number → Algorithm Value) (t : State) (a : Act)
-    → number_of_value v ≡ Some n → Works s (k n) t a → Works s (or_fault NumberOutside (number_of_value v) >>= k) t a
-is_number s v n k t a some leads = subst (λ o. Works s (or_fault NumberOutside o >>= k) t a) (sym some) leads
+    → number_of_value v ≡ Some n → RefinesAlgorithm s (k n) t a
+    → RefinesAlgorithm s (or_fault NumberOutside (number_of_value v) >>= k) t a
+is_number s v n k t a some refines = subst (λ o. RefinesAlgorithm s (or_fault NumberOutside o >>= k) t a)
+    (sym some) refines
 
 -- what is no length of an array
 
-abbrev defined_with : (of_array : Bool) → ObjId → Name → Change → Option Value → WrittenBy → Algorithm Value
+abbrev defined_with : (of_array : Bool) → ObjId → Name → Change → Option Value → AfterDefine → Algorithm Value
 defined_with of_array id x change v purpose =
     with_length of_array change v >>= (λ converted. define_with_number id x converted) >>= after_define purpose
 
-looked_up : (s : State) (id : ObjId) (x : Name) (change : Change) (v : Option Value) (purpose : WrittenBy) (b : Bool)
+looked_up : (s : State) (id : ObjId) (x : Name) (change : Change) (v : Option Value) (purpose : AfterDefine) (b : Bool)
     (t : State) (a : Act) → is_array_length s.store id x ≡ b → change.value ≡ v
-    → Works s (defined_with b id x change v purpose) t a
-    → Works s (define_own_property id x change >>= after_define purpose) t a
+    → RefinesAlgorithm s (defined_with b id x change v purpose) t a
+    → RefinesAlgorithm s (define_own_property id x change >>= after_define purpose) t a
 unfolding define_own_property
-looked_up s id x change v purpose b t a is same leads = record {
-  is = (subst (λ c. Works s (defined_with c id x change change.value purpose) t a) (sym is)
-      (subst (λ w. Works s (defined_with b id x change w purpose) t a) (sym same) leads)).is;
+looked_up s id x change v purpose b t a is same refines = record {
+  is = (subst (λ c. RefinesAlgorithm s (defined_with c id x change change.value purpose) t a) (sym is)
+      (subst (λ w. RefinesAlgorithm s (defined_with b id x change w purpose) t a) (sym same) refines)).is;
 }
 
-pub defines_now : (s : State) (id : ObjId) (x : Name) (change : Change) (purpose : WrittenBy) (t : State) (a : Act)
+pub defines_now : (s : State) (id : ObjId) (x : Name) (change : Change) (purpose : AfterDefine) (t : State) (a : Act)
     → is_array_length s.store id x ≡ false
-    → Works s (define_with_number id x change >>= after_define purpose) t a
-    → Works s (define_own_property id x change >>= after_define purpose) t a
-defines_now s id x change purpose t a no_length leads =
-    looked_up s id x change change.value purpose false t a no_length refl leads
+    → RefinesAlgorithm s (define_with_number id x change >>= after_define purpose) t a
+    → RefinesAlgorithm s (define_own_property id x change >>= after_define purpose) t a
+defines_now s id x change purpose t a no_length refines =
+    looked_up s id x change change.value purpose false t a no_length refl refines
 
-pub defines_no_length : (s : State) (id : ObjId) (x : Name) (change : Change) (purpose : WrittenBy) (t : State)
+pub defines_no_length : (s : State) (id : ObjId) (x : Name) (change : Change) (purpose : AfterDefine) (t : State)
     (a : Act) → is_array_length s.store id x ≡ true → change.value ≡ None
-    → Works s (define_with_number id x change >>= after_define purpose) t a
-    → Works s (define_own_property id x change >>= after_define purpose) t a
-defines_no_length s id x change purpose t a of_array none leads =
-    looked_up s id x change None purpose true t a of_array none leads
+    → RefinesAlgorithm s (define_with_number id x change >>= after_define purpose) t a
+    → RefinesAlgorithm s (define_own_property id x change >>= after_define purpose) t a
+defines_no_length s id x change purpose t a of_array none refines =
+    looked_up s id x change None purpose true t a of_array none refines
 
 -- the length of an array
 
@@ -107,7 +109,7 @@ is_data_change v change length given one_kind = by change.value change.get chang
     by (Some w) (Some g) h given one = absurd (let differ = one in cc)
     by None g h given one = absurd (let differ = given in cc)
 
-abbrev defined_length : ObjId → Attributes → WrittenBy → Value → Algorithm Value
+abbrev defined_length : ObjId → Attributes → AfterDefine → Value → Algorithm Value
 defined_length id attributes purpose length =
     define_with_number id length_name (data_change attributes length) >>= after_define purpose
 
@@ -129,15 +131,15 @@ converted_is v k =
     second : ℕ → Algorithm Value
     second count = to_number v >>= λ n. length_within (Some (pos count)) n
 
-pub converts_length : (s u : State) (id : ObjId) (x : Name) (change : Change) (v w : Value) (purpose : WrittenBy)
+pub converts_length : (s u : State) (id : ObjId) (x : Name) (change : Change) (v w : Value) (purpose : AfterDefine)
     (t : State) (a : Act) → is_array_length s.store id x ≡ true → change.value ≡ Some v → IsOneKind change → w ≡ v
     → AlgorithmWaits s (algorithm.LengthCount id w (attributes_of change) purpose) u
-    → Works u (to_primitive number_hint v) t a
-    → Works s (define_own_property id x change >>= after_define purpose) t a
-converts_length s u id x change v w purpose t a of_array given one_kind same waits leads =
+    → RefinesAlgorithm u (to_primitive number_hint v) t a
+    → RefinesAlgorithm s (define_own_property id x change >>= after_define purpose) t a
+converts_length s u id x change v w purpose t a of_array given one_kind same waits refines =
     looked_up s id x change (Some v) purpose true t a of_array given
-    (subst (λ p. Works s p t a) (sym whole)
-    (subst (λ y. Works s (begun y) t a) same (waits.works (to_primitive number_hint v) t a leads)))
+    (subst (λ p. RefinesAlgorithm s p t a) (sym whole)
+    (subst (λ y. RefinesAlgorithm s (begun y) t a) same (waits.works (to_primitive number_hint v) t a refines)))
   where
     begun : Value → Algorithm Value
     begun y =
@@ -164,47 +166,49 @@ converts_length s u id x change v w purpose t a of_array given one_kind same wai
         ∙ ap (λ (f : Value → Algorithm Value). to_length v >>= f) (fun_ext each)
         ∙ converted_is v (λ length. defined_length id (attributes_of change) purpose length)
 
-pub counts_length : (s u : State) (array : ObjId) (length : Value) (attributes : Attributes) (purpose : WrittenBy)
+pub counts_length : (s u : State) (array : ObjId) (length : Value) (attributes : Attributes) (purpose : AfterDefine)
     (v : Value) (first : Number) (count : ℕ) (t : State) (a : Act) → number_of_value v ≡ Some first
     → count ≡ uint32_of first → AlgorithmWaits s (algorithm.LengthNumber array count attributes purpose) u
-    → Works u (to_primitive number_hint length) t a
-    → Works s (algorithm_after (algorithm.LengthCount array length attributes purpose) v) t a
+    → RefinesAlgorithm u (to_primitive number_hint length) t a
+    → RefinesAlgorithm s (algorithm_after (algorithm.LengthCount array length attributes purpose) v) t a
 unfolding to_number
-counts_length s u array length attributes purpose v first count t a is counted waits leads =
+counts_length s u array length attributes purpose v first count t a is counted waits refines =
     is_number s v first _ t a is
-    (subst (λ n. Works s (to_number length >>= λ m. define_length array n attributes purpose m) t a) counted
+    (subst (λ n. RefinesAlgorithm s (to_number length >>= λ m. define_length array n attributes purpose m) t a) counted
     (works_assoc s (to_primitive number_hint length) _ _ t a
-    (waits.works (to_primitive number_hint length) t a leads)))
+    (waits.works (to_primitive number_hint length) t a refines)))
 
-pub numbers_length : (s : State) (array : ObjId) (count : ℕ) (attributes : Attributes) (purpose : WrittenBy)
+pub numbers_length : (s : State) (array : ObjId) (count : ℕ) (attributes : Attributes) (purpose : AfterDefine)
     (v : Value) (n : Number) (t : State) (a : Act) → number_of_value v ≡ Some n
-    → Works s (define_length array count attributes purpose n) t a
-    → Works s (algorithm_after (algorithm.LengthNumber array count attributes purpose) v) t a
-numbers_length s array count attributes purpose v n t a is leads = is_number s v n _ t a is leads
+    → RefinesAlgorithm s (define_length array count attributes purpose n) t a
+    → RefinesAlgorithm s (algorithm_after (algorithm.LengthNumber array count attributes purpose) v) t a
+numbers_length s array count attributes purpose v n t a is refines = is_number s v n _ t a is refines
 
-abbrev length_if : Bool → ObjId → Attributes → WrittenBy → Number → Algorithm Value
+abbrev length_if : Bool → ObjId → Attributes → AfterDefine → Number → Algorithm Value
 length_if same array attributes purpose n =
     (if same then give (value.Num n) else throw_error RangeError (codes "bad array length"))
     >>= defined_length array attributes purpose
 
-pub defines_length : (s : State) (array : ObjId) (x : Name) (count : ℕ) (attributes : Attributes) (purpose : WrittenBy)
+pub defines_length : (s : State) (array : ObjId) (x : Name) (count : ℕ) (attributes : Attributes)
+    (purpose : AfterDefine)
     (n : Number) (t : State) (a : Act) → same_number (Some (pos count)) n ≡ true → x ≡ codes "length"
-    → Works s (define_with_number array x (data_change attributes (value.Num n)) >>= after_define purpose) t a
-    → Works s (define_length array count attributes purpose n) t a
+    → RefinesAlgorithm s (define_with_number array x
+    (data_change attributes (value.Num n)) >>= after_define purpose) t a
+    → RefinesAlgorithm s (define_length array count attributes purpose n) t a
 unfolding length_name
-defines_length s array x count attributes purpose n t a same named leads =
-    subst (λ b. Works s (length_if b array attributes purpose n) t a) (sym same)
+defines_length s array x count attributes purpose n t a same named refines =
+    subst (λ b. RefinesAlgorithm s (length_if b array attributes purpose n) t a) (sym same)
     (subst (λ y.
-    Works s (define_with_number array y (data_change attributes (value.Num n)) >>= after_define purpose) t a)
-    named leads)
+    RefinesAlgorithm s (define_with_number array y (data_change attributes (value.Num n)) >>= after_define purpose) t a)
+    named refines)
 
-pub bad_length : (s : State) (array : ObjId) (count : ℕ) (attributes : Attributes) (purpose : WrittenBy) (n : Number)
+pub bad_length : (s : State) (array : ObjId) (count : ℕ) (attributes : Attributes) (purpose : AfterDefine) (n : Number)
     (t : State) (a : Act) → same_number (Some (pos count)) n ≡ false
-    → Works s (throw_error RangeError (codes "bad array length")) t a
-    → Works s (define_length array count attributes purpose n) t a
-bad_length s array count attributes purpose n t a differs leads =
-    subst (λ b. Works s (length_if b array attributes purpose n) t a) (sym differs)
-    (works_left_out s RangeError (codes "bad array length") (defined_length array attributes purpose) t a leads)
+    → RefinesAlgorithm s (throw_error RangeError (codes "bad array length")) t a
+    → RefinesAlgorithm s (define_length array count attributes purpose n) t a
+bad_length s array count attributes purpose n t a differs refines =
+    subst (λ b. RefinesAlgorithm s (length_if b array attributes purpose n) t a) (sym differs)
+    (works_left_out s RangeError (codes "bad array length") (defined_length array attributes purpose) t a refines)
 
 -- a number that is a count fits the length of an array
 pub fits_count : (count : ℕ) (n : Number) → count < 4294967296 → same_number (Some (pos count)) n ≡ true

@@ -15,34 +15,34 @@ use Rattle.jl_meaning.specs.Putting.{delete, delete_on, delete_stored, end_mappi
 use Rattle.jl_meaning.specs.Store.{Store}
 use Rattle.jl_store.specs.Answers.{MakesError}
 use Rattle.jl_store.specs.Changes.{after}
-use Rattle.jl_store.specs.Comes.{Comes}
+use Rattle.jl_store.specs.BigStep.{BigStep}
 use Rattle.jl_store.proofs.Chains.{comes_after, comes_on, comes_thrown, error_comes}
 use Rattle.jl_store.proofs.Steps.{comes_changed, comes_to}
 
 -- the property is deleted, and its mapping ends where there is one
 pub comes_deleted : (s t u : Store) (id : ObjId) (x : Name) (free mapped : Bool)
     → free ≡ (delete_property s.heap id.0 x).1 → mapped ≡ is_some (mapped_parameter s id.0 x)
-    → t ≡ after (DeleteProperty id x) s → Comes (end_mapping_if (free && mapped) id x) t u (Ends (gives tt))
-    → Comes (delete_on (value.Obj id) x) s u (Ends (gives free))
+    → t ≡ after (DeleteProperty id x) s → BigStep (end_mapping_if (free && mapped) id x) t u (Ends (gives tt))
+    → BigStep (delete_on (value.Obj id) x) s u (Ends (gives free))
 comes_deleted s t u id x free mapped is_free is_mapped made ends = record {
-  leads = (subst (λ (f : Bool).
-      Comes (delete_stored f (is_some (mapped_parameter s id.0 x)) id x) s u (Ends (gives free))) is_free
-      (subst (λ (m : Bool). Comes (delete_stored free m id x) s u (Ends (gives free))) is_mapped
-      (comes_changed (DeleteProperty id x) made (comes_after ends comes_to)))).leads;
+  refines = (subst (λ (f : Bool).
+      BigStep (delete_stored f (is_some (mapped_parameter s id.0 x)) id x) s u (Ends (gives free))) is_free
+      (subst (λ (m : Bool). BigStep (delete_stored free m id x) s u (Ends (gives free))) is_mapped
+      (comes_changed (DeleteProperty id x) made (comes_after ends comes_to)))).refines;
 }
 
 -- a property that stays, where that throws
 pub throws_kept : (s t u : Store) (throwing : Bool) (base : Value) (x message : Name) (free : Bool) (v : Value)
     → throwing ≡ true → free ≡ false → message ≡ codes "cannot delete"
-    → Comes (delete_on base x) s t (Ends (gives free)) → MakesError TypeError message t u v
-    → Comes (delete throwing base x) s u (Ends (throws v))
+    → BigStep (delete_on base x) s t (Ends (gives free)) → MakesError TypeError message t u v
+    → BigStep (delete throwing base x) s u (Ends (throws v))
 unfolding delete
 throws_kept s t u throwing base x message free v throws_so stays named comes makes =
     comes_on (λ b. require (if throwing then b else true) (codes "cannot delete") >>= λ _. give b) comes
     (rest throwing free throws_so stays)
   where
     rest : (throwing free : Bool) → throwing ≡ true → free ≡ false
-        → Comes (require (if throwing then free else true) (codes "cannot delete") >>= λ _. give free) t u
+        → BigStep (require (if throwing then free else true) (codes "cannot delete") >>= λ _. give free) t u
         (Ends (throws v))
     rest true false e f =
         comes_thrown (λ _. give false)

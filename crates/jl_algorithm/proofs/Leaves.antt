@@ -1,5 +1,5 @@
 -- Values that are there at once: whatever waits for them goes on without a frame.
-use Rattle.std.proofs.Common.{◌≡◌, ◌-◌, ◌<◌, ◌∙◌, ap, if◌then◌else◌, option_map, refl, subst, sym, false, true, Bool}
+use Rattle.std.proofs.Common.{◌≡◌, ◌-◌, ◌<◌, ap, if◌then◌else◌, refl, subst, sym, false, true, Bool}
 use Rattle.std.proofs.Common.{Err, IfOk, IfSome, None, Ok, Option, Result, Some, ℕ}
 use Rattle.jl_text.specs.declared.span.Span.{Span}
 use Rattle.jl_ast.specs.Tree.{Tree}
@@ -22,23 +22,20 @@ use Rattle.jl_meaning.specs.Intrinsics.{global_object}
 use Rattle.jl_meaning.specs.Noting.{performs}
 use Rattle.jl_meaning.specs.Parts.{give, gives, lift, ◌>>=◌, Answer, Context, Part}
 use Rattle.jl_meaning.specs.Properties.{get_property, property_of_value, Property}
-use Rattle.jl_meaning.specs.References.{binding_value, get_name, get_value, identifier_reference, in_environment}
+use Rattle.jl_meaning.specs.References.{get_name, get_value, identifier_reference, in_environment}
 use Rattle.jl_meaning.specs.References.{on_global_object, unresolvable, Reference}
-use Rattle.jl_meaning.specs.Store.{binding_of, Store}
+use Rattle.jl_meaning.specs.Store.{Store}
 use Rattle.jl_meaning.specs.forms.Literals.{literal}
 use Rattle.jl_meaning.specs.forms.Names.{is_hooks, read_name}
-use Rattle.jl_store.specs.Comes.{Comes}
-use Rattle.jl_store.specs.LookUps.{property_seen, reference_seen}
-use Rattle.jl_store.specs.declared.found.Property.{Property as Seen}
-use Rattle.jl_store.specs.declared.names.Reference.{Reference as Resolved}
-use Rattle.jl_store.specs.declared.names.Reference.TheVariants.{InEnvironment, OnGlobalObject, Unresolvable}
+use Rattle.jl_store.specs.BigStep.{BigStep}
+use Rattle.jl_store.specs.LookUps.{value_held, value_referred}
 use Rattle.jl_state.specs.Steps.{Supplies, Took}
 use Rattle.jl_state.specs.Trees.{plain}
 use Rattle.jl_state.specs.Words.{context_of, table_of}
 use Rattle.jl_state.specs.declared.frame.Here.{Here}
 use Rattle.jl_state.specs.declared.state.State.{State}
 use Rattle.jl_state.proofs.Leaves.{supplies_comes, supplies_given, supplies_literal, supplies_noted, supplies_step}
-use Rattle.jl_algorithm.specs.inner.Leaves.{value_at_once, value_held, value_of_name, value_referred}
+use Rattle.jl_algorithm.specs.inner.Leaves.{value_at_once, value_of_name}
 
 -- names
 
@@ -46,27 +43,27 @@ same_value : (v w : Value) → Some v ≡ Some w → v ≡ w
 same_value v w e = cc
 
 comes_held : (store : Store) (this v : Value) (property : Option Property) → value_held property ≡ Some v
-    → Comes (value_of_property this property) store store (Ends (gives v))
+    → BigStep (value_of_property this property) store store (Ends (gives v))
 comes_held store this v None e = absurd (let differ = e in cc)
 comes_held store this v (Some (own, Accessor get set _ _)) e = absurd (let differ = e in cc)
 comes_held store this v (Some (own, Plain w _ _ _)) e =
-    record { leads = (ap (λ (x : Value). Ends (gives x)) (same_value w v e), refl) }
+    record { refines = (ap (λ (x : Value). Ends (gives x)) (same_value w v e), refl) }
 
 comes_referred : (store : Store) (x : Name) (v : Value) (r : Reference) → value_referred store x r ≡ Some v
-    → Comes (get_value x r) store store (Ends (gives v))
+    → BigStep (get_value x r) store store (Ends (gives v))
 unfolding get_value get property_of_value
 comes_referred store x v (in_environment env) e =
-    record { leads = (ap (λ (w : Value). Ends (gives w)) (same_value _ v e), refl) }
+    record { refines = (ap (λ (w : Value). Ends (gives w)) (same_value _ v e), refl) }
 comes_referred store x v on_global_object e =
-    record { leads = (comes_held store (value.Obj global_object) v (get_property store global_object.0 x) e).leads }
+    record { refines = (comes_held store (value.Obj global_object) v (get_property store global_object.0 x) e).refines }
 comes_referred store x v unresolvable e = absurd (let differ = e in cc)
 
 comes_named : (store : Store) (env : ℕ) (x : Name) (v : Value)
     → value_referred store x (identifier_reference store env x) ≡ Some v
-    → Comes (get_name env x) store store (Ends (gives v))
+    → BigStep (get_name env x) store store (Ends (gives v))
 unfolding get_name
 comes_named store env x v e =
-    record { leads = (comes_referred store x v (identifier_reference store env x) e).leads }
+    record { refines = (comes_referred store x v (identifier_reference store env x) e).refines }
 
 supplies_name : (s : State) (c : Context) (x : Name) (v : Value) → value_of_name s.store c.env x ≡ Some v
     → Supplies s (read_name 0 c x) v s
@@ -139,31 +136,3 @@ leaf_left n (Ok (Some v)) more = more
 pub name_of_hooks : (store : Store) (env : ℕ) (x : Name) → is_hooks x ≡ true → None ≡ value_of_name store env x
 name_of_hooks store env x is =
     subst (λ b. None ≡ (if b then None else value_referred store x (identifier_reference store env x))) (sym is) refl
-
-pub name_referred : (store : Store) (env : ℕ) (x : Name) (r : Resolved) → is_hooks x ≡ false
-    → reference_seen r ≡ identifier_reference store env x
-    → value_referred store x (reference_seen r) ≡ value_of_name store env x
-name_referred store env x r other same =
-    subst (λ b. value_referred store x (reference_seen r)
-    ≡ (if b then None else value_referred store x (identifier_reference store env x))) (sym other)
-    (ap (value_referred store x) same)
-
-pub name_bound : (store : Store) (env : ℕ) (x : Name) (r : Resolved) (at : ℕ) (v : Value) → is_hooks x ≡ false
-    → reference_seen r ≡ identifier_reference store env x → r ≡ InEnvironment at
-    → v ≡ binding_value (binding_of store at x) → Some v ≡ value_of_name store env x
-name_bound store env x r at v other same is held =
-    ap (λ (w : Value). Some w) held ∙ ap (λ (q : Resolved). value_referred store x (reference_seen q)) (sym is)
-    ∙ name_referred store env x r other same
-
-pub name_held : (store : Store) (env : ℕ) (x : Name) (r : Resolved) (found : Option Seen) → is_hooks x ≡ false
-    → reference_seen r ≡ identifier_reference store env x → r ≡ OnGlobalObject
-    → option_map property_seen found ≡ get_property store global_object.0 x
-    → value_held (option_map property_seen found) ≡ value_of_name store env x
-name_held store env x r found other same is seen =
-    ap value_held seen ∙ ap (λ (q : Resolved). value_referred store x (reference_seen q)) (sym is)
-    ∙ name_referred store env x r other same
-
-pub name_nowhere : (store : Store) (env : ℕ) (x : Name) (r : Resolved) → is_hooks x ≡ false
-    → reference_seen r ≡ identifier_reference store env x → r ≡ Unresolvable → None ≡ value_of_name store env x
-name_nowhere store env x r other same is =
-    ap (λ (q : Resolved). value_referred store x (reference_seen q)) (sym is) ∙ name_referred store env x r other same

@@ -7,4 +7,4 @@ pub mod Methods
 pub mod Puts
 pub mod Resolved
 pub mod Throwing
-pub mod Ways
+pub mod PutPlans

@@ -14,7 +14,7 @@ use Rattle.jl_meaning.specs.Errors.{string_limit, throw_error, throw_not_defined
 use Rattle.jl_meaning.specs.Parts.{give, lift, throws, ◌>>=◌, Algorithm, Answer, Part, StringTooLong}
 use Rattle.jl_store.specs.Answers.{MakesError}
 use Rattle.jl_store.proofs.Chains.{error_comes}
-use Rattle.jl_state.specs.Rest.{Gives, Works}
+use Rattle.jl_state.specs.Rest.{RefinesExpression, RefinesAlgorithm}
 use Rattle.jl_state.specs.declared.act.Act.{Act}
 use Rattle.jl_state.specs.declared.act.Act.TheVariants as act
 use Rattle.jl_state.specs.declared.state.State.{State}
@@ -23,21 +23,22 @@ use Rattle.jl_state.proofs.Stores.{works_ends, IsStored}
 -- the error that was made is thrown
 pub works_made : (s t : State) (kind : ErrorKind) (message : List ℕ) (v : Value) → IsStored s t
     → MakesError kind message s.store t.store v
-    → Works s (throw_error kind message) t (act.Complete (completion.Throw v))
+    → RefinesAlgorithm s (throw_error kind message) t (act.Complete (completion.Throw v))
 works_made s t kind message v stored makes =
     works_ends s t stored (throw_error kind message) (throws v) (error_comes makes)
 
 -- what follows an error that is thrown is left out
 pub works_left_out : {A : Type 0} (s : State) (kind : ErrorKind) (message : List ℕ) (k : A → Algorithm Value)
-    (t : State) (a : Act) → Works s (throw_error kind message) t a → Works s (throw_error kind message >>= k) t a
+    (t : State) (a : Act) → RefinesAlgorithm s (throw_error kind message) t a
+    → RefinesAlgorithm s (throw_error kind message >>= k) t a
 unfolding throw_error
-works_left_out s kind message k t a leads = record { is = leads.is }
+works_left_out s kind message k t a refines = record { is = refines.is }
 
 pub gives_left_out : {A : Type 0} (s : State) (kind : ErrorKind) (message : List ℕ) (k : A → Part (Answer Value))
-    (t : State) (a : Act) → Works s (throw_error kind message) t a
-    → Gives s (lift (throw_error kind message) >>= k) t a
+    (t : State) (a : Act) → RefinesAlgorithm s (throw_error kind message) t a
+    → RefinesExpression s (lift (throw_error kind message) >>= k) t a
 unfolding throw_error
-gives_left_out s kind message k t a leads = record { is = leads.is }
+gives_left_out s kind message k t a refines = record { is = refines.is }
 
 abbrev message_of : Name → Name
 message_of x = x ++ codes " is not defined"
@@ -54,24 +55,25 @@ fits n no_more = by (leb_tells 1048577 n)
 
 -- nothing binds the name
 pub throws_message : (s : State) (x message : Name) (t : State) (a : Act) → message ≡ message_of x
-    → (1048577 ≤ length (message_of x) → ⊥) → Works s (throw_error ReferenceError message) t a
-    → Works s (throw_not_defined x) t a
-throws_message s x message t a same no_more leads =
-    subst (λ b. Works s (thrown_if b (message_of x)) t a)
+    → (1048577 ≤ length (message_of x) → ⊥) → RefinesAlgorithm s (throw_error ReferenceError message) t a
+    → RefinesAlgorithm s (throw_not_defined x) t a
+throws_message s x message t a same no_more refines =
+    subst (λ b. RefinesAlgorithm s (thrown_if b (message_of x)) t a)
     (sym (le-ltb string_limit (length (message_of x)) (fits (length (message_of x)) no_more)))
-    (subst (λ m. Works s (throw_error ReferenceError m) t a) same leads)
+    (subst (λ m. RefinesAlgorithm s (throw_error ReferenceError m) t a) same refines)
 
 pub message_too_long : (s : State) (x : Name) → 1048577 ≤ length (message_of x)
-    → Works s (throw_not_defined x) s (act.Fault fault.StringTooLong)
+    → RefinesAlgorithm s (throw_not_defined x) s (act.Fault fault.StringTooLong)
 message_too_long s x over =
-    subst (λ b. Works s (thrown_if b (message_of x)) s (act.Fault fault.StringTooLong))
+    subst (λ b. RefinesAlgorithm s (thrown_if b (message_of x)) s (act.Fault fault.StringTooLong))
     (sym (lt-ltb string_limit (length (message_of x)) (omega (arith, over)))) (record { is = λ kept told. refl })
 
 -- what follows is left out
 pub works_not_defined : {A : Type 0} (s : State) (x : Name) (k : A → Algorithm Value) (t : State) (a : Act)
-    → Works s (throw_not_defined x) t a → Works s (throw_not_defined x >>= k) t a
-works_not_defined s x k t a leads = by (nat_lt string_limit (length (message_of x))) leads
+    → RefinesAlgorithm s (throw_not_defined x) t a → RefinesAlgorithm s (throw_not_defined x >>= k) t a
+works_not_defined s x k t a refines = by (nat_lt string_limit (length (message_of x))) refines
   where
-    by : (b : Bool) → Works s (thrown_if b (message_of x)) t a → Works s (thrown_if b (message_of x) >>= k) t a
-    by true leads = record { is = leads.is }
-    by false leads = works_left_out s ReferenceError (message_of x) k t a leads
+    by : (b : Bool) → RefinesAlgorithm s (thrown_if b (message_of x)) t a
+        → RefinesAlgorithm s (thrown_if b (message_of x) >>= k) t a
+    by true refines = record { is = refines.is }
+    by false refines = works_left_out s ReferenceError (message_of x) k t a refines

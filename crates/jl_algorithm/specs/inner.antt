@@ -1,3 +1,3 @@
 pub mod Leaves
 pub mod Lengths
-pub mod Ways
+pub mod PutPlans

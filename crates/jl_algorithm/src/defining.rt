@@ -10,7 +10,7 @@ ghost use Rattle.jl_state.specs.Clauses.{Computes, RankAtMost};
 use crate::errors::throw_native;
 use crate::primitive::to_primitive;
 use jl_heap::Change;
-use jl_state::{Act, AlgorithmFrame, Attributes, Hint, State, WrittenBy};
+use jl_state::{Act, AfterDefine, AlgorithmFrame, Attributes, Boxed, Hint, State};
 use jl_store::Store;
 use jl_text::{NoMemory, Text};
 use jl_value::{Class, ErrorKind, ObjId, Value, share};
@@ -25,12 +25,12 @@ pub fn define_own_property<'p>(
     id: ObjId,
     name: &Text,
     change: Change,
-    purpose: WrittenBy,
+    purpose: AfterDefine,
 ) -> Result<Act<'p>, NoMemory>
     requires { IsOneKind change }
-    ensures leads { Computes state.old (define_own_property id name.now change then after_define purpose) result
+    ensures refines { Computes state.old (define_own_property id name.now change then after_define purpose) result
         state.new }
-    ensures falls { RankAtMost state.old 40 result state.new }
+    ensures bounded { RankAtMost state.old 40 result state.new }
 {
     if is_array_length(&state.store, id, name) {
         return define_length(state, id, name, change, purpose);
@@ -45,13 +45,13 @@ fn define_length<'p>(
     id: ObjId,
     name: &Text,
     change: Change,
-    purpose: WrittenBy,
+    purpose: AfterDefine,
 ) -> Result<Act<'p>, NoMemory>
     requires one_kind { IsOneKind change }
     requires length { is_array_length state.old.store id name.now ≡ true }
-    ensures leads { Computes state.old (define_own_property id name.now change then after_define purpose) result
+    ensures refines { Computes state.old (define_own_property id name.now change then after_define purpose) result
         state.new }
-    ensures falls { RankAtMost state.old 40 result state.new }
+    ensures bounded { RankAtMost state.old 40 result state.new }
 {
     let alloc = state.alloc();
     let Some(length) = &change.value else {
@@ -67,7 +67,7 @@ fn define_length<'p>(
             enumerable: change.enumerable,
             configurable: change.configurable,
         },
-        purpose,
+        purpose: Boxed::of(alloc, purpose)?,
     })?;
     to_primitive(state, v, Hint::Number)
 }
@@ -79,13 +79,13 @@ pub(crate) fn define_now<'p>(
     id: ObjId,
     name: &Text,
     change: Change,
-    purpose: WrittenBy,
+    purpose: AfterDefine,
 ) -> Result<Act<'p>, NoMemory>
     requires one_kind { IsOneKind change }
     requires length { FitsLength state.old.store.heap id.0 name.now change }
-    ensures leads { Computes state.old (define_with_number id name.now change then after_define purpose) result
+    ensures refines { Computes state.old (define_with_number id name.now change then after_define purpose) result
         state.new }
-    ensures falls { RankAtMost state.old 3 result state.new }
+    ensures bounded { RankAtMost state.old 3 result state.new }
 {
     let done = state.store.define_with_number(id, name, change)?;
     after_define(state, purpose, done)
@@ -95,21 +95,21 @@ pub(crate) fn define_now<'p>(
 /// and a builtin always.
 pub(crate) fn after_define<'p>(
     state: &mut State<'p>,
-    purpose: WrittenBy,
+    purpose: AfterDefine,
     done: bool,
 ) -> Result<Act<'p>, NoMemory>
-    ensures leads { Computes state.old (after_define purpose done) result state.new }
-    ensures falls { RankAtMost state.old 3 result state.new }
+    ensures refines { Computes state.old (after_define purpose done) result state.new }
+    ensures bounded { RankAtMost state.old 3 result state.new }
 {
     match purpose {
-        WrittenBy::Literal => Ok(Act::Give(Value::Undefined)),
-        WrittenBy::Put { throwing, gives } => {
+        AfterDefine::Literal => Ok(Act::Give(Value::Undefined)),
+        AfterDefine::Put { throwing, gives } => {
             if throwing && !done {
                 return throw_native(state, ErrorKind::TypeError, "cannot write");
             }
             Ok(Act::Give(gives))
         }
-        WrittenBy::Builtin { gives } => {
+        AfterDefine::Builtin { gives } => {
             if !done {
                 return throw_native(state, ErrorKind::TypeError, "cannot define");
             }

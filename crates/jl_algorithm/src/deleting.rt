@@ -6,7 +6,7 @@ ghost use Rattle.jl_effects.specs.Running.{Ends};
 ghost use Rattle.jl_meaning.specs.Parts.{gives};
 ghost use Rattle.jl_meaning.specs.Putting.{delete, delete_on, end_mapping_if, is_free};
 ghost use Rattle.jl_store.specs.Answers.{ends_with};
-ghost use Rattle.jl_store.specs.Comes.{Comes};
+ghost use Rattle.jl_store.specs.BigStep.{BigStep};
 ghost use Rattle.jl_store.specs.LookUps.{property_seen};
 
 use jl_state::State;
@@ -24,7 +24,7 @@ pub fn delete<'p>(
     name: &Text,
 ) -> Result<Answer<bool>, NoMemory>
     ensures stored { state.new ≡ record state.old { store = state.new.store } }
-    ensures comes { IfOk result (λ answer. Comes (delete throwing base.now name.now) state.old.store state.new.store
+    ensures comes { IfOk result (λ answer. BigStep (delete throwing base.now name.now) state.old.store state.new.store
         (ends_with answer)) }
 {
     let alloc = state.alloc();
@@ -39,7 +39,7 @@ pub fn delete<'p>(
 
 /// The same without a throw.
 fn delete_on(store: &mut Store, base: &Value, name: &Text) -> bool
-    ensures { Comes (delete_on base.now name.now) store.old store.new (Ends (gives result)) }
+    ensures { BigStep (delete_on base.now name.now) store.old store.new (Ends (gives result)) }
 {
     match base {
         Value::Obj(id) => delete_own(store, *id, name),
@@ -52,7 +52,7 @@ fn delete_on(store: &mut Store, base: &Value, name: &Text) -> bool
 /// The same of an object. A mapped index that has been deleted is mapped no more (10.6).
 #[tactic(auto, using(crate::proofs::Deletes::comes_deleted))]
 fn delete_own(store: &mut Store, id: ObjId, name: &Text) -> bool
-    ensures { Comes (delete_on (value.Obj id) name.now) store.old store.new (Ends (gives result)) }
+    ensures { BigStep (delete_on (value.Obj id) name.now) store.old store.new (Ends (gives result)) }
 {
     let mapped = store.mapped_parameter(id, name).is_some();
     let free = store.delete_property(id, name);
@@ -61,7 +61,7 @@ fn delete_own(store: &mut Store, id: ObjId, name: &Text) -> bool
 }
 
 fn end_mapping_if(store: &mut Store, ends: bool, id: ObjId, name: &Text)
-    ensures { Comes (end_mapping_if ends id name.now) store.old store.new (Ends (gives tt)) }
+    ensures { BigStep (end_mapping_if ends id name.now) store.old store.new (Ends (gives tt)) }
 {
     if ends {
         store.end_mapping(id, name);

@@ -13,8 +13,8 @@ pub fn throw_native<'p>(
     kind: ErrorKind,
     message: &str,
 ) -> Result<Act<'p>, NoMemory>
-    ensures leads { Computes state.old (throw_error kind message.now) result state.new }
-    ensures falls { RankAtMost state.old 3 result state.new }
+    ensures refines { Computes state.old (throw_error kind message.now) result state.new }
+    ensures bounded { RankAtMost state.old 3 result state.new }
 {
     let alloc = state.alloc();
     let message = word(alloc, message)?;
@@ -28,8 +28,8 @@ fn throw_error<'p>(
     kind: ErrorKind,
     message: Text,
 ) -> Result<Act<'p>, NoMemory>
-    ensures leads { Computes state.old (throw_error kind message) result state.new }
-    ensures falls { RankAtMost state.old 3 result state.new }
+    ensures refines { Computes state.old (throw_error kind message) result state.new }
+    ensures bounded { RankAtMost state.old 3 result state.new }
 {
     let thrown = state.store.throw_error(kind, message)?;
     Ok(Act::Complete(Completion::Throw(thrown)))
@@ -38,8 +38,8 @@ fn throw_error<'p>(
 /// Throws that nothing binds a name (8.7.1, 8.7.2). Where the message would be too long for a text, the run ends.
 #[tactic(auto, using(crate::proofs::Throwing::throws_message, crate::proofs::Throwing::message_too_long))]
 pub(crate) fn throw_not_defined<'p>(state: &mut State<'p>, name: &Text) -> Result<Act<'p>, NoMemory>
-    ensures leads { Computes state.old (throw_not_defined name.now) result state.new }
-    ensures falls { RankAtMost state.old 3 result state.new }
+    ensures refines { Computes state.old (throw_not_defined name.now) result state.new }
+    ensures bounded { RankAtMost state.old 3 result state.new }
 {
     let alloc = state.alloc();
     let ending = word(alloc, " is not defined")?;

@@ -4,7 +4,7 @@ ghost use Rattle.jl_meaning.specs.Getting.{get, value_of_property};
 ghost use Rattle.jl_state.specs.Clauses.{Computes, RankAtMost};
 ghost use Rattle.jl_store.specs.LookUps.{property_seen};
 ghost use Rattle.jl_state.specs.Rank.{rank_act};
-ghost use Rattle.jl_state.specs.Rest.{Works};
+ghost use Rattle.jl_state.specs.Rest.{RefinesAlgorithm};
 ghost use Rattle.jl_state.specs.declared.state.State.{State as Machine};
 
 use jl_state::{Act, Invocation, State};
@@ -16,8 +16,8 @@ use std::alloc::Global;
 /// [[Get]] of an object (8.12.3), and that of a value that is no object (8.7.1). A getter is called.
 #[tactic(auto, unfolding(jl_meaning::specs::Getting::get), using(jl_state::proofs::Steps::looks))]
 pub fn get<'p>(state: &mut State<'p>, base: &Value, name: &Text) -> Result<Act<'p>, NoMemory>
-    ensures leads { Computes state.old (get base.now name.now) result state.new }
-    ensures falls { RankAtMost state.old 4 result state.new }
+    ensures refines { Computes state.old (get base.now name.now) result state.new }
+    ensures bounded { RankAtMost state.old 4 result state.new }
 {
     let alloc = state.alloc();
     match state.store.property_of_value(base, name) {
@@ -33,8 +33,8 @@ fn value_of_property<'p>(
     this: &Value,
     property: &Property<'_>,
 ) -> Result<Act<'p>, NoMemory>
-    ensures leads { IfOk result (λ act. (s : Machine)
-        → Works s (value_of_property this.now (Some (property_seen property.now))) s act) }
+    ensures refines { IfOk result (λ act. (s : Machine)
+        → RefinesAlgorithm s (value_of_property this.now (Some (property_seen property.now))) s act) }
     ensures quiet { IfOk result (λ act. rank_act act ≤ 2) }
 {
     if let Some(value) = property.found.value(alloc)? {

@@ -11,7 +11,6 @@ ghost use Rattle.jl_algorithm.specs.inner.Leaves.{this_in, value_at_once, value_
 use crate::hooks::is_hooks;
 use jl_ast::{Expr, ExprKind};
 use jl_state::{Calls, Here, State};
-use jl_store::Reference;
 use jl_text::{NoMemory, Text};
 use jl_value::{ObjId, Value, share};
 use std::alloc::Global;
@@ -66,12 +65,5 @@ fn value_of_name(state: &State<'_>, env: usize, name: &Text) -> Result<Option<Va
     if is_hooks(name) {
         return Ok(None);
     }
-    match state.store.identifier_reference(env, name) {
-        Reference::InEnvironment(at) => Ok(Some(state.store.binding_value(at, name)?)),
-        Reference::OnGlobalObject => match state.store.get_property(ObjId::GLOBAL, name) {
-            Some(property) => property.found.value(state.alloc()),
-            None => Ok(None),
-        },
-        Reference::Unresolvable => Ok(None),
-    }
+    state.store.value_of_name(env, name)
 }

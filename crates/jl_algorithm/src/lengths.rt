@@ -11,7 +11,7 @@ use crate::primitive::to_primitive;
 use jl_conv::primitive_to_num;
 use jl_heap::Change;
 use jl_num::{Num, to_uint32};
-use jl_state::{Act, AlgorithmFrame, Attributes, Hint, State, WrittenBy};
+use jl_state::{Act, AfterDefine, AlgorithmFrame, Attributes, Boxed, Hint, State};
 use jl_text::{NoMemory, word};
 use jl_value::{ErrorKind, Fault, ObjId, Value};
 
@@ -23,12 +23,12 @@ pub fn step_length_count<'p>(
     array: ObjId,
     length: Value,
     attributes: Attributes,
-    purpose: WrittenBy,
+    purpose: Boxed<AfterDefine>,
     v: Value,
 ) -> Result<Act<'p>, NoMemory>
-    ensures leads { ResumesAlgorithm state.old (AlgorithmFrame.LengthCount array length attributes purpose) v result
+    ensures refines { ResumesAlgorithm state.old (AlgorithmFrame.LengthCount array length attributes purpose) v result
         state.new }
-    ensures falls { RankAtMost state.old 22 result state.new }
+    ensures bounded { RankAtMost state.old 22 result state.new }
 {
     let Some(first) = number_of(&v) else {
         return Ok(Act::Fault(Fault::NumberOutside));
@@ -49,17 +49,17 @@ pub fn step_length_number<'p>(
     array: ObjId,
     count: u32,
     attributes: Attributes,
-    purpose: WrittenBy,
+    purpose: Boxed<AfterDefine>,
     v: Value,
 ) -> Result<Act<'p>, NoMemory>
-    ensures leads { ResumesAlgorithm state.old (AlgorithmFrame.LengthNumber array count attributes purpose) v result
+    ensures refines { ResumesAlgorithm state.old (AlgorithmFrame.LengthNumber array count attributes purpose) v result
         state.new }
-    ensures falls { RankAtMost state.old 5 result state.new }
+    ensures bounded { RankAtMost state.old 5 result state.new }
 {
     let Some(n) = number_of(&v) else {
         return Ok(Act::Fault(Fault::NumberOutside));
     };
-    define_length(state, array, count, attributes, purpose, n)
+    define_length(state, array, count, attributes, purpose.into_inner(), n)
 }
 
 /// The length of an array is defined, where the number is this count (15.4.5.1, step 3.d).
@@ -69,11 +69,11 @@ fn define_length<'p>(
     array: ObjId,
     count: u32,
     attributes: Attributes,
-    purpose: WrittenBy,
+    purpose: AfterDefine,
     n: Num,
 ) -> Result<Act<'p>, NoMemory>
-    ensures leads { Computes state.old (define_length array count attributes purpose n) result state.new }
-    ensures falls { RankAtMost state.old 3 result state.new }
+    ensures refines { Computes state.old (define_length array count attributes purpose n) result state.new }
+    ensures bounded { RankAtMost state.old 3 result state.new }
 {
     let alloc = state.alloc();
     if !is_count(n, count) {

@@ -7,7 +7,7 @@ ghost use Rattle.jl_meaning.specs.References.{put_name, put_value, type_of_name,
 ghost use Rattle.jl_state.specs.AlgorithmFrames.{algorithm_after};
 ghost use Rattle.jl_state.specs.Clauses.{Computes, RankAtMost, ResumesAlgorithm};
 ghost use Rattle.jl_store.specs.Answers.{ends_with};
-ghost use Rattle.jl_store.specs.Comes.{Comes};
+ghost use Rattle.jl_store.specs.BigStep.{BigStep};
 ghost use Rattle.jl_store.specs.LookUps.{reference_seen};
 
 use crate::deleting::delete;
@@ -27,8 +27,8 @@ pub fn get_value<'p>(
     name: &Text,
     reference: Reference,
 ) -> Result<Act<'p>, NoMemory>
-    ensures leads { Computes state.old (get_value name.now (reference_seen reference)) result state.new }
-    ensures falls { RankAtMost state.old 4 result state.new }
+    ensures refines { Computes state.old (get_value name.now (reference_seen reference)) result state.new }
+    ensures bounded { RankAtMost state.old 4 result state.new }
 {
     match reference {
         Reference::InEnvironment(env) => { Ok(Act::Give(state.store.binding_value(env, name)?)) }
@@ -41,8 +41,8 @@ pub fn get_value<'p>(
 /// nothing binds it.
 #[tactic(auto, using(crate::proofs::Resolved::gets_name))]
 pub fn get_name<'p>(state: &mut State<'p>, env: usize, name: &Text) -> Result<Act<'p>, NoMemory>
-    ensures leads { Computes state.old (get_name env name.now) result state.new }
-    ensures falls { RankAtMost state.old 4 result state.new }
+    ensures refines { Computes state.old (get_name env name.now) result state.new }
+    ensures bounded { RankAtMost state.old 4 result state.new }
 {
     let reference = state.store.identifier_reference(env, name);
     get_value(state, name, reference)
@@ -59,9 +59,9 @@ pub fn put_value<'p>(
     reference: Reference,
     gives: Value,
 ) -> Result<Act<'p>, NoMemory>
-    ensures leads { Computes state.old (put_value strict name.now v (reference_seen reference) then λ _. give gives)
+    ensures refines { Computes state.old (put_value strict name.now v (reference_seen reference) then λ _. give gives)
         result state.new }
-    ensures falls { RankAtMost state.old 44 result state.new }
+    ensures bounded { RankAtMost state.old 44 result state.new }
 {
     let global = Value::Obj(ObjId::GLOBAL);
     match reference {
@@ -85,8 +85,8 @@ pub fn put_name<'p>(
     v: Value,
     gives: Value,
 ) -> Result<Act<'p>, NoMemory>
-    ensures leads { Computes state.old (put_name strict env name.now v then λ _. give gives) result state.new }
-    ensures falls { RankAtMost state.old 44 result state.new }
+    ensures refines { Computes state.old (put_name strict env name.now v then λ _. give gives) result state.new }
+    ensures bounded { RankAtMost state.old 44 result state.new }
 {
     let reference = state.store.identifier_reference(env, name);
     put_value(state, strict, name, v, reference, gives)
@@ -101,9 +101,9 @@ fn put_binding<'p>(
     v: Value,
     gives: Value,
 ) -> Result<Act<'p>, NoMemory>
-    ensures leads { Computes state.old (put_value strict name.now v (in_environment env) then λ _. give gives)
+    ensures refines { Computes state.old (put_value strict name.now v (in_environment env) then λ _. give gives)
         result state.new }
-    ensures falls { RankAtMost state.old 3 result state.new }
+    ensures bounded { RankAtMost state.old 3 result state.new }
 {
     match state.store.set_mutable_binding(strict, env, name, v)? {
         Answer::Gives(()) => Ok(Act::Give(gives)),
@@ -113,9 +113,9 @@ fn put_binding<'p>(
 
 /// What `typeof` gives of a name, as a value (11.4.3); of one that nothing binds that is `undefined`.
 pub fn type_of_name<'p>(state: &mut State<'p>, env: usize, name: &Text) -> Result<Act<'p>, NoMemory>
-    ensures leads { Computes state.old (type_of_name env name.now then λ type. give (value.Text type)) result
+    ensures refines { Computes state.old (type_of_name env name.now then λ type. give (value.Text type)) result
         state.new }
-    ensures falls { RankAtMost state.old 10 result state.new }
+    ensures bounded { RankAtMost state.old 10 result state.new }
 {
     let reference = state.store.identifier_reference(env, name);
     type_of_reference(state, name, reference)
@@ -127,9 +127,9 @@ fn type_of_reference<'p>(
     name: &Text,
     reference: Reference,
 ) -> Result<Act<'p>, NoMemory>
-    ensures leads { Computes state.old (type_of_reference name.now (reference_seen reference) then λ type. give
+    ensures refines { Computes state.old (type_of_reference name.now (reference_seen reference) then λ type. give
         (value.Text type)) result state.new }
-    ensures falls { RankAtMost state.old 10 result state.new }
+    ensures bounded { RankAtMost state.old 10 result state.new }
 {
     let alloc = state.alloc();
     match reference {
@@ -146,9 +146,9 @@ fn type_of_value<'p>(
     name: &Text,
     reference: Reference,
 ) -> Result<Act<'p>, NoMemory>
-    ensures leads { Computes state.old (get_value name.now (reference_seen reference) then algorithm_after
+    ensures refines { Computes state.old (get_value name.now (reference_seen reference) then algorithm_after
         AlgorithmFrame.TypeOf) result state.new }
-    ensures falls { RankAtMost state.old 10 result state.new }
+    ensures bounded { RankAtMost state.old 10 result state.new }
 {
     state.push_algorithm(AlgorithmFrame::TypeOf)?;
     get_value(state, name, reference)
@@ -157,8 +157,8 @@ fn type_of_value<'p>(
 /// Goes on with the value of a name whose type is asked for (11.4.3).
 #[tactic(auto, using(jl_state::proofs::Steps::looks))]
 pub fn step_type_of<'p>(state: &mut State<'p>, v: Value) -> Result<Act<'p>, NoMemory>
-    ensures leads { ResumesAlgorithm state.old AlgorithmFrame.TypeOf v result state.new }
-    ensures falls { RankAtMost state.old 5 result state.new }
+    ensures refines { ResumesAlgorithm state.old AlgorithmFrame.TypeOf v result state.new }
+    ensures bounded { RankAtMost state.old 5 result state.new }
 {
     let alloc = state.alloc();
     let name = type_name(&v, state.store.is_callable(&v));
@@ -174,7 +174,7 @@ pub fn delete_name<'p>(
     name: &Text,
 ) -> Result<Answer<bool>, NoMemory>
     ensures stored { state.new ≡ record state.old { store = state.new.store } }
-    ensures comes { IfOk result (λ answer. Comes (delete_name strict env name.now) state.old.store state.new.store
+    ensures comes { IfOk result (λ answer. BigStep (delete_name strict env name.now) state.old.store state.new.store
         (ends_with answer)) }
 {
     match state.store.identifier_reference(env, name) {

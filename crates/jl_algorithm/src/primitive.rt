@@ -18,8 +18,8 @@ use std::alloc::Global;
 /// ToPrimitive (9.1). An object is asked for its two methods, one after the other.
 #[tactic(auto, unfolding(jl_meaning::specs::Conversions::to_primitive), using(crate::proofs::Methods::works_default))]
 pub fn to_primitive<'p>(state: &mut State<'p>, v: Value, hint: Hint) -> Result<Act<'p>, NoMemory>
-    ensures leads { Computes state.old (to_primitive (hint_of hint) v) result state.new }
-    ensures falls { RankAtMost state.old 16 result state.new }
+    ensures refines { Computes state.old (to_primitive (hint_of hint) v) result state.new }
+    ensures bounded { RankAtMost state.old 16 result state.new }
 {
     match v {
         Value::Obj(object, ..) => try_method(state, object, hint, false),
@@ -36,8 +36,8 @@ pub fn step_method<'p>(
     is_second: bool,
     v: Value,
 ) -> Result<Act<'p>, NoMemory>
-    ensures leads { ResumesAlgorithm state.old (AlgorithmFrame.Method object hint is_second) v result state.new }
-    ensures falls { RankAtMost state.old (rank_method is_second) result state.new }
+    ensures refines { ResumesAlgorithm state.old (AlgorithmFrame.Method object hint is_second) v result state.new }
+    ensures bounded { RankAtMost state.old (rank_method is_second) result state.new }
 {
     let alloc = state.alloc();
     if !state.store.is_callable(&v) {
@@ -70,9 +70,9 @@ pub fn step_method_result<'p>(
     is_second: bool,
     v: Value,
 ) -> Result<Act<'p>, NoMemory>
-    ensures leads { ResumesAlgorithm state.old (AlgorithmFrame.MethodResult object hint is_second) v result
+    ensures refines { ResumesAlgorithm state.old (AlgorithmFrame.MethodResult object hint is_second) v result
         state.new }
-    ensures falls { RankAtMost state.old (rank_method_result is_second) result state.new }
+    ensures bounded { RankAtMost state.old (rank_method_result is_second) result state.new }
 {
     match v {
         Value::Obj(..) => after_none(state, object, hint, is_second),
@@ -88,9 +88,9 @@ fn try_method<'p>(
     hint: Hint,
     is_second: bool,
 ) -> Result<Act<'p>, NoMemory>
-    ensures leads { Computes state.old (try_method (value.Obj object) (method_name hint is_second) then after_method
+    ensures refines { Computes state.old (try_method (value.Obj object) (method_name hint is_second) then after_method
         object hint is_second) result state.new }
-    ensures falls { RankAtMost state.old (rank_method is_second + 4) result state.new }
+    ensures bounded { RankAtMost state.old (rank_method is_second + 4) result state.new }
 {
     let alloc = state.alloc();
     let name = method_name(alloc, hint, is_second)?;
@@ -110,8 +110,8 @@ fn after_none<'p>(
     hint: Hint,
     is_second: bool,
 ) -> Result<Act<'p>, NoMemory>
-    ensures leads { Computes state.old (after_method object hint is_second None) result state.new }
-    ensures falls { RankAtMost state.old (rank_method_result is_second) result state.new }
+    ensures refines { Computes state.old (after_method object hint is_second None) result state.new }
+    ensures bounded { RankAtMost state.old (rank_method_result is_second) result state.new }
 {
     if is_second {
         throw_native(state, ErrorKind::TypeError, "no primitive value")

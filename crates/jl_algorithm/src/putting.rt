@@ -9,19 +9,19 @@ ghost use Rattle.jl_meaning.specs.Properties.{can_put, get_property, property_of
 ghost use Rattle.jl_meaning.specs.Putting.{put, put_if, put_on_primitive};
 ghost use Rattle.jl_state.specs.AlgorithmFrames.{after_define};
 ghost use Rattle.jl_store.specs.LookUps.{property_seen};
-ghost use Rattle.jl_algorithm.specs.inner.Ways.{found_setter, put_so, way_of};
+ghost use Rattle.jl_algorithm.specs.inner.PutPlans.{found_setter, put_by, plan_put};
 ghost use Rattle.jl_state.specs.Clauses.{Computes, RankAtMost};
 
 use crate::defining::{after_define, define_own_property};
 use jl_heap::Change;
-use jl_state::{Act, AlgorithmFrame, Invocation, State, WrittenBy};
+use jl_state::{Act, AfterDefine, AlgorithmFrame, Invocation, State};
 use jl_store::{Property, can_put};
 use jl_text::{List, NoMemory, Text};
 use jl_value::{ObjId, Value};
 
 /// How a put is done on an object (8.12.5).
 #[derive(Clone, Copy)]
-enum Way {
+enum PutPlan {
     /// Not at all (step 1).
     Refused,
     /// An own data property gets the value (step 3).
@@ -42,8 +42,8 @@ pub fn put<'p>(
     v: Value,
     gives: Value,
 ) -> Result<Act<'p>, NoMemory>
-    ensures leads { Computes state.old (put throwing base name.now v then λ _. give gives) result state.new }
-    ensures falls { RankAtMost state.old 42 result state.new }
+    ensures refines { Computes state.old (put throwing base name.now v then λ _. give gives) result state.new }
+    ensures bounded { RankAtMost state.old 42 result state.new }
 {
     match base {
         Value::Obj(id, ..) => put_on_object(state, id, name, v, throwing, gives),
@@ -60,13 +60,13 @@ fn put_on_object<'p>(
     throwing: bool,
     gives: Value,
 ) -> Result<Act<'p>, NoMemory>
-    ensures leads { Computes state.old (put_if (can_put (object_at state.old.store.heap id.0).extensible
+    ensures refines { Computes state.old (put_if (can_put (object_at state.old.store.heap id.0).extensible
         (get_property state.old.store id.0 name.now)) id name.now v (get_property state.old.store id.0 name.now)
-        then after_define (WrittenBy.Put throwing gives)) result state.new }
-    ensures falls { RankAtMost state.old 42 result state.new }
+        then after_define (AfterDefine.Put throwing gives)) result state.new }
+    ensures bounded { RankAtMost state.old 42 result state.new }
 {
     match state.store.set_value(id, name, v) {
-        Ok(()) => after_define(state, WrittenBy::Put { throwing, gives }, true),
+        Ok(()) => after_define(state, AfterDefine::Put { throwing, gives }, true),
         Err(v) => put_by_look_up(state, id, name, v, throwing, gives),
     }
 }
@@ -80,40 +80,40 @@ fn put_by_look_up<'p>(
     throwing: bool,
     gives: Value,
 ) -> Result<Act<'p>, NoMemory>
-    ensures leads { Computes state.old (put_if (can_put (object_at state.old.store.heap id.0).extensible
+    ensures refines { Computes state.old (put_if (can_put (object_at state.old.store.heap id.0).extensible
         (get_property state.old.store id.0 name.now)) id name.now v (get_property state.old.store id.0 name.now)
-        then after_define (WrittenBy.Put throwing gives)) result state.new }
-    ensures falls { RankAtMost state.old 42 result state.new }
+        then after_define (AfterDefine.Put throwing gives)) result state.new }
+    ensures bounded { RankAtMost state.old 42 result state.new }
 {
     let property = state.store.get_property(id, name);
-    let way = way_of(can_put(state.store.is_extensible(id), &property), &property);
-    put_so(state, way, id, name, v, throwing, gives)
+    let way = plan_put(can_put(state.store.is_extensible(id), &property), &property);
+    put_by(state, way, id, name, v, throwing, gives)
 }
 
 /// A put that is done so.
 #[tactic(auto, using(crate::proofs::Puts::calls_setter))]
-fn put_so<'p>(
+fn put_by<'p>(
     state: &mut State<'p>,
-    way: Way,
+    way: PutPlan,
     id: ObjId,
     name: &Text,
     v: Value,
     throwing: bool,
     gives: Value,
 ) -> Result<Act<'p>, NoMemory>
-    ensures leads { Computes state.old (put_so id name.now v way then after_define (WrittenBy.Put throwing gives))
+    ensures refines { Computes state.old (put_by id name.now v way then after_define (AfterDefine.Put throwing gives))
         result state.new }
-    ensures falls { RankAtMost state.old 42 result state.new }
+    ensures bounded { RankAtMost state.old 42 result state.new }
 {
     match way {
-        Way::Refused => { after_define(state, WrittenBy::Put { throwing, gives }, false) }
-        Way::Changed => {
-            let purpose = WrittenBy::Put { throwing, gives };
+        PutPlan::Refused => { after_define(state, AfterDefine::Put { throwing, gives }, false) }
+        PutPlan::Changed => {
+            let purpose = AfterDefine::Put { throwing, gives };
             define_own_property(state, id, name, value_change(v), purpose)
         }
-        Way::Called(setter) => call_setter(state, setter, Value::Obj(id), v, gives),
-        Way::Added => {
-            let purpose = WrittenBy::Put { throwing, gives };
+        PutPlan::Called(setter) => call_setter(state, setter, Value::Obj(id), v, gives),
+        PutPlan::Added => {
+            let purpose = AfterDefine::Put { throwing, gives };
             define_own_property(state, id, name, plain_change(v), purpose)
         }
     }
@@ -129,13 +129,13 @@ fn put_on_primitive<'p>(
     throwing: bool,
     gives: Value,
 ) -> Result<Act<'p>, NoMemory>
-    ensures leads { Computes state.old (put_on_primitive base v (property_of_value state.old.store base name.now)
-        then after_define (WrittenBy.Put throwing gives)) result state.new }
-    ensures falls { RankAtMost state.old 42 result state.new }
+    ensures refines { Computes state.old (put_on_primitive base v (property_of_value state.old.store base name.now)
+        then after_define (AfterDefine.Put throwing gives)) result state.new }
+    ensures bounded { RankAtMost state.old 42 result state.new }
 {
     match found_setter(&state.store.property_of_value(&base, name)) {
         Some(setter) => call_setter(state, setter, base, v, gives),
-        None => after_define(state, WrittenBy::Put { throwing, gives }, false),
+        None => after_define(state, AfterDefine::Put { throwing, gives }, false),
     }
 }
 
@@ -147,8 +147,8 @@ fn call_setter<'p>(
     v: Value,
     gives: Value,
 ) -> Result<Act<'p>, NoMemory>
-    ensures leads { Computes state.old (call setter this (v ∷ []) then λ _. give gives) result state.new }
-    ensures falls { RankAtMost state.old 5 result state.new }
+    ensures refines { Computes state.old (call setter this (v ∷ []) then λ _. give gives) result state.new }
+    ensures bounded { RankAtMost state.old 5 result state.new }
 {
     let alloc = state.alloc();
     let mut args = List::new(alloc);
@@ -166,23 +166,23 @@ fn call_setter<'p>(
 }
 
 /// How a put is done where this property was found, or none, by whether it can be done at all.
-#[tactic(auto, using(crate::proofs::Ways::ways))]
-fn way_of(can_put: bool, property: &Option<Property<'_>>) -> Way
-    ensures { result ≡ way_of can_put (option_map property_seen property.now) }
+#[tactic(auto, using(crate::proofs::PutPlans::ways))]
+fn plan_put(can_put: bool, property: &Option<Property<'_>>) -> PutPlan
+    ensures { result ≡ plan_put can_put (option_map property_seen property.now) }
 {
     if !can_put {
-        return Way::Refused;
+        return PutPlan::Refused;
     }
     let Some(property) = property else {
-        return Way::Added;
+        return PutPlan::Added;
     };
     if let Some(setter) = property.found.setter() {
-        return Way::Called(setter);
+        return PutPlan::Called(setter);
     }
     if property.own && property.found.is_data() {
-        Way::Changed
+        PutPlan::Changed
     } else {
-        Way::Added
+        PutPlan::Added
     }
 }
 

@@ -141,7 +141,8 @@ pub asked_objects : {budget : ℕ} (a : Asked) → Means (commands.Objects budge
     → (a ≡ objects budget) × (budget ≤ most_budget)
 asked_objects _ (means_objects budget few) = (refl, few)
 
-pub asked_cover : {budget : ℕ} (a : Asked) → Means (commands.Cover budget) a → (a ≡ cover budget) × (budget ≤ most_budget)
+pub asked_cover : {budget : ℕ} (a : Asked) → Means (commands.Cover budget) a
+    → (a ≡ cover budget) × (budget ≤ most_budget)
 asked_cover _ (means_cover budget few) = (refl, few)
 
 pub asked_replay : {set : RuleSet} (c : Command) (a : Asked) → Means c a → c ≡ commands.Replay set
@@ -189,7 +190,8 @@ reads_program _ _ (means_record budget few) other no_unmap no_replay = (forms.Sc
 reads_program _ _ (means_replay set chosen choice) other no_unmap no_replay = absurd (no_replay set refl)
 reads_program _ _ (means_objects budget few) other no_unmap no_replay = (forms.Script, refl)
 reads_program _ _ (means_cover budget few) other no_unmap no_replay = (forms.Script, refl)
-reads_program _ _ (means_soak number budget set chosen least few choice) other no_unmap no_replay = absurd (other number budget set refl)
+reads_program _ _ (means_soak number budget set chosen least few choice) other no_unmap no_replay = absurd
+    (other number budget set refl)
 
 -- and one that reads a program is none of them
 pub never_soak : {number budget : ℕ} {set : RuleSet} (a : Asked) (form : Form) → form_of a ≡ Some form

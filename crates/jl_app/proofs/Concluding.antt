@@ -40,7 +40,8 @@ responds_told _ units p shelf _ due (covers budget) responds = responds.1
 
 module _ (one : OneReading) (never : NeverBoth) where
   answered_told : (a : Asked) (bytes : List ℕ) (p : Program Span) (shelf : OnShelf) (budget : ℕ) (due : Due)
-      → Tells a budget → IsAccepted bytes p → IsAnswered a bytes shelf due → IsToldOfWoven a (units_of bytes) p budget due
+      → Tells a budget → IsAccepted bytes p → IsAnswered a bytes shelf due
+      → IsToldOfWoven a (units_of bytes) p budget due
   answered_told a bytes p shelf budget _ tells is (refused form cause reads why kept) =
       absurd (never forms.Script bytes p cause is
       (subst (λ f. IsRefused f bytes cause) (sym (some_same (sym (told_form a budget tells).1 ∙ reads))) why))

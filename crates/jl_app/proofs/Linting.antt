@@ -4,7 +4,7 @@ use Rattle.jl_ast.specs.Tree.{Program}
 use Rattle.jl_effects.specs.Running.{state_of as world_of, steps_taken, Over, Spent}
 use Rattle.jl_machine.specs.Runs.{ending_of, IsRun}
 use Rattle.jl_machine.specs.declared.ending.Run.{Run}
-use Rattle.jl_meaning.specs.Mean.{mean, Run as Comes-to}
+use Rattle.jl_meaning.specs.Mean.{mean, Run as BigStep-to}
 use Rattle.jl_meaning.specs.Store.{Store}
 use Rattle.jl_op.specs.Chosen.{Kinds}
 use Rattle.jl_op.specs.IdMap.{id_map}
@@ -23,7 +23,7 @@ use Rattle.jl_app.specs.declared.status.Status.{Status}
 use Rattle.jl_app.proofs.Executing.{of_these_kinds}
 
 -- hooks tell of no more operations than a run takes steps
-few_steps : (n : ℕ) (r : Comes-to) → steps_taken n r ≤ n
+few_steps : (n : ℕ) (r : BigStep-to) → steps_taken n r ≤ n
 few_steps n (Over e left w) = omega arith
 few_steps n (Spent w) = omega arith
 

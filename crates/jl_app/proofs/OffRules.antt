@@ -1,5 +1,6 @@
 -- What comments switch off are rules.
-use Rattle.std.proofs.Common.{◌≡◌, ◌∙◌, ◌+◌, ◌++◌, ◌≤◌, ◌<◌, ◌==◌, ℕ, All, Bool, true, false, List, [], ◌∷◌, Option, None}
+use Rattle.std.proofs.Common.{◌≡◌, ◌∙◌, ◌+◌, ◌++◌, ◌≤◌, ◌<◌, ◌==◌, ℕ, All, Bool, true, false, List, [], ◌∷◌, Option}
+use Rattle.std.proofs.Common.{None}
 use Rattle.std.proofs.Common.{Some, ap, arith, cond, length, map, refl, subst, sym, if◌then◌else◌}
 use Rattle.std.proofs.lemmas.Map.Views.{All-insert_key}
 use Rattle.std.specs.BTreeSet.{insert_key}
@@ -9,7 +10,8 @@ use Rattle.std.specs.Str.{bytes_eq}
 use Rattle.jl_analysis.proofs.RuleNames.{rule_names}
 use Rattle.jl_analysis.specs.Rules.{IsRule, rule_with, rules}
 use Rattle.jl_text.specs.Places.{position_of}
-use Rattle.jl_report.specs.Off.{Pair, after, by_line, off_by, pairs_named, pairs_of, pairs_of_text, pairs_with, rules_in}
+use Rattle.jl_report.specs.Off.{Pair, after, by_line, off_by, pairs_named, pairs_of, pairs_of_text, pairs_with}
+use Rattle.jl_report.specs.Off.{rules_in}
 use Rattle.jl_report.specs.Off.{rules_with, with_each_rule, with_pairs, without_last_spaces}
 use Rattle.jl_token.specs.declared.token.Comment.{Comment}
 

@@ -26,7 +26,8 @@ use Rattle.jl_token.proofs.CommentLaws.{comments_are_unique}
 use Rattle.jl_token.proofs.Whole.{tokens_are_unique}
 use Rattle.jl_token.specs.declared.token.Comment.{Comment}
 use Rattle.jl_app.specs.Accepting.{IsRead}
-use Rattle.jl_app.specs.Answers.{accepted, answered_to, answered_to_made, bad_words, counted, due_to, ended, ended_alone}
+use Rattle.jl_app.specs.Answers.{accepted, answered_to, answered_to_made, bad_words, counted, due_to, ended}
+use Rattle.jl_app.specs.Answers.{ended_alone}
 use Rattle.jl_app.specs.Answers.{ended_woven, listed, refused, replayed, text, unmapped, written, IsAnswered, IsChecked}
 use Rattle.jl_app.specs.Answers.{IsDue, IsDueTo, IsExecuted, IsInstrumented, IsMapped, IsPrinted, IsTraced}
 use Rattle.jl_app.specs.Answers.{IsTracedAlone, Responds}
@@ -55,7 +56,8 @@ use Rattle.jl_app.proofs.Scripts.{same_made}
 pub are_one : {d e : Due} → d ≡ e → AreOne d e
 are_one {d = d} same = subst (λ e. AreOne d e) same (same_answer d)
 
-one_refusal : (c d : Refusal) → AreOneCause c d → AreOne (refused_only (refusal_words c)) (refused_only (refusal_words d))
+one_refusal : (c d : Refusal) → AreOneCause c d
+    → AreOne (refused_only (refusal_words c)) (refused_only (refusal_words d))
 one_refusal _ _ (same_cause c) = same_answer (refused_only (refusal_words c))
 one_refusal _ _ (both_unread here there) = both_unreadable here there
 
@@ -104,7 +106,8 @@ module _ (units : List ℕ) (p : Program Span) where
   same_linted budget chosen lent _ _ (ran q lines hooks read is) (ran q' lines' hooks' read' is') =
       let same = same_read lent q' q read' read in
       same_report budget chosen q lines lines' hooks hooks' is
-      (subst (λ y. IsReported units p chosen (told_of budget chosen y) (told_of budget chosen y) lines' hooks') same is')
+      (subst (λ y. IsReported units p chosen (told_of budget chosen y)
+      (told_of budget chosen y) lines' hooks') same is')
       ∙ ap (λ y. due_of budget chosen y lines' hooks') (sym same)
 
   same_checked : (d e : Due) → IsChecked p d → IsChecked p e → d ≡ e

@@ -110,7 +110,8 @@ module _ (form : Form) (bytes : List ℕ) where
       absurd (never_both (units_of bytes) read.tokens at kind read.has.lexed fault)
   one_stage _ _ (unsound p e read is) (unread ts place has none) = absurd (never_read ts has none p read)
   one_stage _ _ (unsound p e read is) (unsound q f read' is') =
-      subst (λ g. AreOneCause (cause_of e) (cause_of g)) (same_error p q e f read read' is is') (same_cause (cause_of e))
+      subst (λ g. AreOneCause (cause_of e) (cause_of g)) (same_error p q e f read read' is is')
+      (same_cause (cause_of e))
 
   pub one_cause : (c d : Refusal) → IsRefused form bytes c → IsRefused form bytes d → AreOneCause c d
   one_cause c d a b = one_stage c d (stage_of c a) (stage_of d b)

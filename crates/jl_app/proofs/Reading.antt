@@ -1,7 +1,8 @@
 -- How much of the source is read, and what is due to more.
 use Rattle.std.proofs.Common.{◌≡◌, ◌∙◌, ◌<◌, ◌≤◌, ◌^◌, ℕ, List, Option, Some, None, ap, arith, length, refl, subst, sym}
 use Rattle.std.specs.Prelude.{IfSome, codes, option_and_then}
-use Rattle.jl_command.specs.Asked.{Asked, check, cover, exec, instrument, lint, map_of_ids, objects, print, record_of_run}
+use Rattle.jl_command.specs.Asked.{Asked, check, cover, exec, instrument, lint, map_of_ids, objects, print}
+use Rattle.jl_command.specs.Asked.{record_of_run}
 use Rattle.jl_command.specs.Asked.{replay, request, run, soak, srcmap, trace, unmap}
 use Rattle.jl_app.specs.Answers.{IsAnswered, IsDue, IsDueTo, answered_to, answered_to_made, bad_words, due_to, refused}
 use Rattle.jl_app.specs.Answers.{replayed, unmapped}
@@ -113,11 +114,13 @@ module _ {bytes : List ℕ} {shelf : OnShelf} (same : shelf.same) where
   long_answer instrument most is more = long_program _ forms.Script most refl is more
   long_answer map_of_ids most is more = long_program _ forms.Script most refl is more
   long_answer srcmap most is more = long_program _ forms.Script most refl is more
-  long_answer unmap most is more = unmapped refl (no_text TooLong (longer (subst (λ n. n < length bytes) (sym (some_same is)) more))) same
+  long_answer unmap most is more = unmapped refl
+      (no_text TooLong (longer (subst (λ n. n < length bytes) (sym (some_same is)) more))) same
   long_answer (trace budget) most is more = long_program _ forms.Script most refl is more
   long_answer (exec budget) most is more = long_program _ forms.WovenText most refl is more
   long_answer (record_of_run budget) most is more = long_program _ forms.Script most refl is more
-  long_answer (replay chosen) most is more = replayed chosen refl (not_text TooLong (longer (subst (λ n. n < length bytes) (sym (some_same is)) more))) same
+  long_answer (replay chosen) most is more = replayed chosen refl
+      (not_text TooLong (longer (subst (λ n. n < length bytes) (sym (some_same is)) more))) same
   long_answer (objects budget) most is more = long_program _ forms.Script most refl is more
   long_answer (cover budget) most is more = long_program _ forms.Script most refl is more
   long_answer (soak number budget chosen) most is more = absurd (cc)

@@ -41,7 +41,8 @@ module _ {held : List ℕ} {shelf : OnShelf} where
 
 module _ {words : List (List ℕ)} {held : List ℕ} {shelf : OnShelf} where
   -- what is due to the command that the words ask for
-  due_to_asked : (a : Asked) (due : Due) → request words ≡ Some a → IsDue words held shelf due → IsDueTo a held shelf due
+  due_to_asked : (a : Asked) (due : Due) → request words ≡ Some a → IsDue words held shelf due
+      → IsDueTo a held shelf due
   due_to_asked a _ is (bad_words none kept) = let both = sym none ∙ is in absurd (cc)
   due_to_asked a due is (due_to b words answered) =
       subst (λ (x : Asked). IsDueTo x held shelf due) (same_asked (sym words ∙ is)) answered

@@ -1,7 +1,8 @@
 -- What is due has a status of its own: none of those of a failure to read or to write, or of memory.
 use Rattle.std.proofs.Common.{◌≡◌, ℕ, List, [], ◌∷◌, ap, refl, subst, sym, ◌∙◌}
 use Rattle.jl_ast.specs.Tree.{Program}
-use Rattle.jl_command.specs.Asked.{Asked, check, cover, exec, instrument, lint, map_of_ids, objects, print, record_of_run}
+use Rattle.jl_command.specs.Asked.{Asked, check, cover, exec, instrument, lint, map_of_ids, objects, print}
+use Rattle.jl_command.specs.Asked.{record_of_run}
 use Rattle.jl_command.specs.Asked.{replay, run, soak, srcmap, trace, unmap}
 use Rattle.jl_machine.specs.Runs.{ending_of}
 use Rattle.jl_meaning.specs.Mean as mean
@@ -9,7 +10,8 @@ use Rattle.jl_op.specs.Operations.{Operation}
 use Rattle.jl_text.specs.declared.span.Span.{Span}
 use Rattle.jl_value.specs.declared.ending.Outcome.{Outcome as Ending}
 use Rattle.jl_value.specs.declared.ending.Outcome.TheVariants as ending
-use Rattle.jl_app.specs.Answers.{accepted, answered_to, answered_to_made, bad_words, counted, due_to, ended, ended_alone}
+use Rattle.jl_app.specs.Answers.{accepted, answered_to, answered_to_made, bad_words, counted, due_to, ended}
+use Rattle.jl_app.specs.Answers.{ended_alone}
 use Rattle.jl_app.specs.Answers.{ended_woven, listed, refused, replayed, text, unmapped, written, IsAnswered, IsChecked}
 use Rattle.jl_app.specs.Answers.{IsDue, IsDueTo, IsExecuted, IsInstrumented, IsMapped, IsPrinted, IsTraced}
 use Rattle.jl_app.specs.Answers.{IsTracedAlone, Responds}

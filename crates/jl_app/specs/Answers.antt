@@ -129,5 +129,6 @@ pub data IsDueTo (a : Asked) (bytes : List ℕ) (shelf : OnShelf) : Due → Type
 
 -- what is due to these words
 pub data IsDue (words : List (List ℕ)) (bytes : List ℕ) (shelf : OnShelf) : Due → Type 0 where
-  bad_words : request words ≡ None → shelf.same → IsDue words bytes shelf (line_only status.BadWords (codes "bad words"))
+  bad_words : request words ≡ None → shelf.same
+      → IsDue words bytes shelf (line_only status.BadWords (codes "bad words"))
   due_to : {due : Due} (a : Asked) → request words ≡ Some a → IsDueTo a bytes shelf due → IsDue words bytes shelf due

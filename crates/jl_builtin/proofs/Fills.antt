@@ -19,7 +19,7 @@ use Rattle.jl_meaning.specs.builtins.Arguments.{give_object}
 use Rattle.jl_meaning.specs.builtins.Elements.{add_in_turns, add_index, delete_index, put_length}
 use Rattle.jl_meaning.specs.forms.Literals.{index_name}
 use Rattle.jl_store.specs.Answers.{ends_with, fault_seen, finish_of}
-use Rattle.jl_store.specs.Comes.{Comes}
+use Rattle.jl_store.specs.BigStep.{BigStep}
 use Rattle.jl_store.specs.declared.answer.AlgorithmFault.{AlgorithmFault}
 use Rattle.jl_store.specs.declared.answer.Answer.{Answer}
 use Rattle.jl_store.specs.declared.answer.Answer.TheVariants.{Gives, Throws}
@@ -27,7 +27,7 @@ use Rattle.jl_store.specs.declared.answer.Finished.{Finished}
 use Rattle.jl_store.specs.declared.answer.Finished.TheVariants as ended
 use Rattle.jl_store.proofs.Chains.{comes_failed, comes_on, comes_thrown}
 use Rattle.jl_store.proofs.Steps.{comes_to}
-use Rattle.jl_state.specs.Rest.{Works}
+use Rattle.jl_state.specs.Rest.{RefinesAlgorithm}
 use Rattle.jl_state.specs.Steps.{Took}
 use Rattle.jl_state.specs.declared.act.Act.{Act}
 use Rattle.jl_state.specs.declared.state.State.{State}
@@ -38,63 +38,63 @@ use Rattle.jl_builtin.proofs.Waits.{length_is}
 -- an element is added, whatever becomes of it
 module _ (array : ObjId) (index : ℕ) (v : Value) (x : Name) (change : Change) (from to : Store)
     (name_is : x ≡ index_name index) (change_is : change ≡ plain_change v) (answer : Finished Bool)
-    (comes : Comes (define_own_property array x change) from to (finish_of answer)) where
+    (comes : BigStep (define_own_property array x change) from to (finish_of answer)) where
   defines : (end : Finished Bool) → answer ≡ end
-      → Comes (define_own_property array (index_name index) (plain_change v)) from to (finish_of end)
+      → BigStep (define_own_property array (index_name index) (plain_change v)) from to (finish_of end)
   defines end is =
-      subst (λ (f : Finished Bool). Comes (define_own_property array (index_name index) (plain_change v)) from to
+      subst (λ (f : Finished Bool). BigStep (define_own_property array (index_name index) (plain_change v)) from to
       (finish_of f)) is
-      (subst (λ y. Comes (define_own_property array y (plain_change v)) from to (finish_of answer)) name_is
-      (subst (λ c. Comes (define_own_property array x c) from to (finish_of answer)) change_is comes))
+      (subst (λ y. BigStep (define_own_property array y (plain_change v)) from to (finish_of answer)) name_is
+      (subst (λ c. BigStep (define_own_property array x c) from to (finish_of answer)) change_is comes))
 
   pub index_added : (done : Bool) → answer ≡ ended.Gives done
-      → Comes (add_index array index v) from to (Ends (gives tt))
+      → BigStep (add_index array index v) from to (Ends (gives tt))
   index_added done is = comes_on (λ _. give tt) (defines (ended.Gives done) is) comes_to
 
-  pub index_thrown : (w : Value) → answer ≡ ended.Throws w → Comes (add_index array index v) from to (Ends (throws w))
+  pub index_thrown : (w : Value) → answer ≡ ended.Throws w → BigStep (add_index array index v) from to (Ends (throws w))
   index_thrown w is = comes_thrown (λ _. give tt) (defines (ended.Throws w) is)
 
   pub index_failed : (f : AlgorithmFault) → answer ≡ ended.Fails f
-      → Comes (add_index array index v) from to (Fails (fault_seen f))
+      → BigStep (add_index array index v) from to (Fails (fault_seen f))
   index_failed f is = comes_failed (λ _. give tt) (defines (ended.Fails f) is)
 
 -- an element is deleted
 module _ (o : ObjId) (index : ℕ) (x : Name) (from to : Store) (name_is : x ≡ index_name index) (answer : Answer Bool)
-    (comes : Comes (delete true (value.Obj o) x) from to (ends_with answer)) where
+    (comes : BigStep (delete true (value.Obj o) x) from to (ends_with answer)) where
   deletes : (end : Answer Bool) → answer ≡ end
-      → Comes (delete true (value.Obj o) (index_name index)) from to (ends_with end)
+      → BigStep (delete true (value.Obj o) (index_name index)) from to (ends_with end)
   deletes end is =
-      subst (λ (b : Answer Bool). Comes (delete true (value.Obj o) (index_name index)) from to (ends_with b)) is
-      (subst (λ y. Comes (delete true (value.Obj o) y) from to (ends_with answer)) name_is comes)
+      subst (λ (b : Answer Bool). BigStep (delete true (value.Obj o) (index_name index)) from to (ends_with b)) is
+      (subst (λ y. BigStep (delete true (value.Obj o) y) from to (ends_with answer)) name_is comes)
 
-  pub index_deleted : (free : Bool) → answer ≡ Gives free → Comes (delete_index o index) from to (Ends (gives tt))
+  pub index_deleted : (free : Bool) → answer ≡ Gives free → BigStep (delete_index o index) from to (Ends (gives tt))
   index_deleted free is = comes_on (λ _. give tt) (deletes (Gives free) is) comes_to
 
-  pub index_kept : (v : Value) → answer ≡ Throws v → Comes (delete_index o index) from to (Ends (throws v))
+  pub index_kept : (v : Value) → answer ≡ Throws v → BigStep (delete_index o index) from to (Ends (throws v))
   index_kept v is = comes_thrown (λ _. give tt) (deletes (Throws v) is)
 
 -- a length is put that is a number
 pub puts_length : (s : State) (o : ObjId) (n : ℕ) (m : Number) (x : Name) (v : Value) (t : State) (a : Act)
     → number_of (pos n) ≡ Some m → x ≡ codes "length"
-    → Works s (put true (value.Obj o) x (value.Num m) >>= λ _. give v) t a
-    → Works s (put_length o n >>= λ _. give v) t a
-puts_length s o n m x v t a is named leads =
-    subst (λ (q : Option Number). Works s (or_fault NumberOutside q >>= (λ m. give (value.Num m))
+    → RefinesAlgorithm s (put true (value.Obj o) x (value.Num m) >>= λ _. give v) t a
+    → RefinesAlgorithm s (put_length o n >>= λ _. give v) t a
+puts_length s o n m x v t a is named refines =
+    subst (λ (q : Option Number). RefinesAlgorithm s (or_fault NumberOutside q >>= (λ m. give (value.Num m))
     >>= (λ w. put true (value.Obj o) length_name w) >>= λ _. give v) t a) (sym is)
-    (subst (λ (y : Name). Works s (put true (value.Obj o) y (value.Num m) >>= λ _. give v) t a)
-    (named ∙ sym length_is) leads)
+    (subst (λ (y : Name). RefinesAlgorithm s (put true (value.Obj o) y (value.Num m) >>= λ _. give v) t a)
+    (named ∙ sym length_is) refines)
 
 -- a value becomes an element in a turn, before those that are left
 pub fills : (s t : State) (array : ObjId) (from next : ℕ) (values : List Value) (v : Value) (u : State) (a : Act)
     → drop from values ≡ v ∷ drop next values → next ≡ from + 1 → Took s t
-    → Works t (add_index array from v >>= λ _. add_in_turns array next (drop next values)
+    → RefinesAlgorithm t (add_index array from v >>= λ _. add_in_turns array next (drop next values)
     >>= λ _. give_object array) u a
-    → Works s (add_in_turns array from (drop from values) >>= λ _. give_object array) u a
-fills s t array from next values v u a split follows took leads =
-    subst (λ l. Works s (add_in_turns array from l >>= last) u a) (sym split)
+    → RefinesAlgorithm s (add_in_turns array from (drop from values) >>= λ _. give_object array) u a
+fills s t array from next values v u a split follows took refines =
+    subst (λ l. RefinesAlgorithm s (add_in_turns array from l >>= last) u a) (sym split)
     (took.works (add_index array from v >>= others (from + 1) >>= last) u a
     (works_assoc t (add_index array from v) (others (from + 1)) last u a
-    (subst (λ n. Works t (add_index array from v >>= λ b. others n b >>= last) u a) follows leads)))
+    (subst (λ n. RefinesAlgorithm t (add_index array from v >>= λ b. others n b >>= last) u a) follows refines)))
   where
     last : Unit {0} → Algorithm Value
     last _ = give_object array
@@ -106,9 +106,9 @@ fills s t array from next values v u a split follows took leads =
 pub fills_found : (s t : State) (array : ObjId) (from next : ℕ) (values list : List Value) (v : Value)
     (found : Option (Value × ℕ)) (u : State) (a : Act) → list ≡ values → FoundFrom from list found
     → IfSome found (λ r. r.1 ≡ from + 1) → found ≡ Some (v, next) → Took s t
-    → Works t (add_index array from v >>= λ _. add_in_turns array next (drop next values)
+    → RefinesAlgorithm t (add_index array from v >>= λ _. add_in_turns array next (drop next values)
     >>= λ _. give_object array) u a
-    → Works s (add_in_turns array from (drop from values) >>= λ _. give_object array) u a
-fills_found s t array from next values list v found u a same there follows is took leads =
+    → RefinesAlgorithm s (add_in_turns array from (drop from values) >>= λ _. give_object array) u a
+fills_found s t array from next values list v found u a same there follows is took refines =
     fills s t array from next values v u a (some_from from next list values v found same there is)
-    (subst (λ (o : Option (Value × ℕ)). IfSome o (λ r. r.1 ≡ from + 1)) is follows) took leads
+    (subst (λ (o : Option (Value × ℕ)). IfSome o (λ r. r.1 ≡ from + 1)) is follows) took refines

@@ -7,7 +7,7 @@ use Rattle.jl_meaning.specs.Errors.{throw_type_error}
 use Rattle.jl_meaning.specs.Parts.{◌>>=◌, Algorithm}
 use Rattle.jl_meaning.specs.Store.{Store}
 use Rattle.jl_meaning.specs.builtins.Arguments.{need_receiver}
-use Rattle.jl_state.specs.Rest.{Works}
+use Rattle.jl_state.specs.Rest.{RefinesAlgorithm}
 use Rattle.jl_state.specs.declared.act.Act.{Act}
 use Rattle.jl_state.specs.declared.state.State.{State}
 use Rattle.jl_state.proofs.Steps.{looks}
@@ -16,16 +16,16 @@ use Rattle.jl_algorithm.proofs.Throwing.{works_left_out}
 module _ {A : Type 0} (s : State) (find : Store → Option A) (found : Option A) (k : A → Algorithm Value) (t : State)
     (a : Act) (is : found ≡ find s.store) where
   -- it is what is asked for
-  pub receives : (x : A) → found ≡ Some x → Works s (k x) t a
-      → Works s (Look (λ store. need_receiver (find store) >>= k)) t a
-  receives x there leads =
+  pub receives : (x : A) → found ≡ Some x → RefinesAlgorithm s (k x) t a
+      → RefinesAlgorithm s (Look (λ store. need_receiver (find store) >>= k)) t a
+  receives x there refines =
       looks s (λ store. need_receiver (find store) >>= k) (k x) t a (ap (λ o. need_receiver o >>= k) (sym there ∙ is))
-      leads
+      refines
 
   -- or a TypeError is thrown
-  pub refuses : found ≡ None → Works s (throw_type_error (codes "wrong receiver")) t a
-      → Works s (Look (λ store. need_receiver (find store) >>= k)) t a
-  refuses none leads =
+  pub refuses : found ≡ None → RefinesAlgorithm s (throw_type_error (codes "wrong receiver")) t a
+      → RefinesAlgorithm s (Look (λ store. need_receiver (find store) >>= k)) t a
+  refuses none refines =
       looks s (λ store. need_receiver (find store) >>= k) (throw_type_error (codes "wrong receiver") >>= k) t a
       (ap (λ o. need_receiver o >>= k) (sym none ∙ is))
-      (works_left_out s TypeError (codes "wrong receiver") k t a leads)
+      (works_left_out s TypeError (codes "wrong receiver") k t a refines)

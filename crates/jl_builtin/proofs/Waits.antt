@@ -17,7 +17,7 @@ use Rattle.jl_meaning.specs.builtins.Elements.{element, element_if, get_index, g
 use Rattle.jl_progress.specs.Primitives.{number_of_primitive}
 use Rattle.jl_progress.specs.Progress.{progress_after}
 use Rattle.jl_progress.specs.declared.progress.Progress.{Progress}
-use Rattle.jl_state.specs.Rest.{Works}
+use Rattle.jl_state.specs.Rest.{RefinesAlgorithm}
 use Rattle.jl_state.specs.Steps.{AlgorithmWaits}
 use Rattle.jl_state.specs.declared.act.Act.{Act}
 use Rattle.jl_state.specs.declared.act.Act.TheVariants as act
@@ -44,49 +44,54 @@ got_length o k =
 -- a builtin waits for the length of an object
 pub length_waits : (s u : State) (p : Progress) (o : ObjId) (x : Name) (k : ℕ → Algorithm Value) (t : State) (a : Act)
     → x ≡ codes "length" → ((v : Value) → progress_after p v ≡ (to_number v >>= λ n. k (uint32_of n)))
-    → AlgorithmWaits s (algorithm.Builtin p) u → Works u (get (value.Obj o) x) t a → Works s (get_length o >>= k) t a
-length_waits s u p o x k t a named after waits leads =
-    subst (λ q. Works s q t a) (got_length o k)
-    (subst (λ (g : Value → Algorithm Value). Works s (get (value.Obj o) length_name >>= g) t a) (fun_ext after)
+    → AlgorithmWaits s (algorithm.Builtin p) u → RefinesAlgorithm u (get (value.Obj o) x) t a
+    → RefinesAlgorithm s (get_length o >>= k) t a
+length_waits s u p o x k t a named after waits refines =
+    subst (λ q. RefinesAlgorithm s q t a) (got_length o k)
+    (subst (λ (g : Value → Algorithm Value). RefinesAlgorithm s (get (value.Obj o) length_name >>= g) t a)
+    (fun_ext after)
     (waits.works (get (value.Obj o) length_name) t a
-    (subst (λ (y : Name). Works u (get (value.Obj o) y) t a) (named ∙ sym length_is) leads)))
+    (subst (λ (y : Name). RefinesAlgorithm u (get (value.Obj o) y) t a) (named ∙ sym length_is) refines)))
 
 -- numbers
 
 -- a builtin waits for a value that is to be a number
 pub builtin_waits : (s u : State) (p : Progress) (k : Number → Algorithm Value) (v : Value) (t : State) (a : Act)
     → ((w : Value) → progress_after p w ≡ (number_of_primitive w >>= k)) → AlgorithmWaits s (algorithm.Builtin p) u
-    → Works u (to_primitive number_hint v) t a → Works s (to_number v >>= k) t a
-builtin_waits s u p k v t a after waits leads = number_waits s u t (algorithm.Builtin p) k v a after waits leads
+    → RefinesAlgorithm u (to_primitive number_hint v) t a → RefinesAlgorithm s (to_number v >>= k) t a
+builtin_waits s u p k v t a after waits refines = number_waits s u t (algorithm.Builtin p) k v a after waits refines
 
 -- the same for an integer
 pub integer_waits : (s u : State) (p : Progress) (k : ℤ → Algorithm Value) (v : Value) (t : State) (a : Act)
     → ((w : Value) → progress_after p w ≡ (number_of_primitive w >>= λ n. k (integer_of n)))
-    → AlgorithmWaits s (algorithm.Builtin p) u → Works u (to_primitive number_hint v) t a
-    → Works s (to_integer v >>= k) t a
-integer_waits s u p k v t a after waits leads =
-    subst (λ q. Works s q t a) (chained (to_number v) (λ n. give (integer_of n)) k)
-    (builtin_waits s u p (λ n. k (integer_of n)) v t a after waits leads)
+    → AlgorithmWaits s (algorithm.Builtin p) u → RefinesAlgorithm u (to_primitive number_hint v) t a
+    → RefinesAlgorithm s (to_integer v >>= k) t a
+integer_waits s u p k v t a after waits refines =
+    subst (λ q. RefinesAlgorithm s q t a) (chained (to_number v) (λ n. give (integer_of n)) k)
+    (builtin_waits s u p (λ n. k (integer_of n)) v t a after waits refines)
 
 -- a primitive value that is a number, and one that is none
 pub number_given : (s : State) (v : Value) (o : Option Number) (n : Number) (k : Number → Algorithm Value) (t : State)
-    (a : Act) → o ≡ number_of_value v → o ≡ Some n → Works s (k n) t a → Works s (number_of_primitive v >>= k) t a
-number_given s v o n k t a is there leads = found s t a (number_of_value v) n k (sym there ∙ is) leads
+    (a : Act) → o ≡ number_of_value v → o ≡ Some n → RefinesAlgorithm s (k n) t a
+    → RefinesAlgorithm s (number_of_primitive v >>= k) t a
+number_given s v o n k t a is there refines = found s t a (number_of_value v) n k (sym there ∙ is) refines
 
 pub number_outside : (s : State) (v : Value) (o : Option Number) (k : Number → Algorithm Value)
-    → o ≡ number_of_value v → o ≡ None → Works s (number_of_primitive v >>= k) s (act.Fault fault.NumberOutside)
+    → o ≡ number_of_value v → o ≡ None → RefinesAlgorithm s (number_of_primitive v >>= k) s
+    (act.Fault fault.NumberOutside)
 number_outside s v o k is none =
-    subst (λ (q : Option Number). Works s (or_fault NumberOutside q >>= k) s (act.Fault fault.NumberOutside))
+    subst (λ (q : Option Number). RefinesAlgorithm s (or_fault NumberOutside q >>= k) s (act.Fault fault.NumberOutside))
     (sym none ∙ is) (record { is = λ kept told. refl })
 
 -- elements
 
 -- the element at an index is there
 pub element_there : (s : State) (o : ObjId) (k : ℕ) (there : Bool) (l : Option Value → Algorithm Value) (t : State)
-    (a : Act) → there ≡ has_index s.store o k → there ≡ true → Works s (get_index o k >>= λ v. l (Some v)) t a
-    → Works s (element o k >>= l) t a
-element_there s o k there l t a is so leads =
-    looks s (λ store. element_if (has_index store o k) o k >>= l) (get_index o k >>= λ v. l (Some v)) t a same leads
+    (a : Act) → there ≡ has_index s.store o k → there ≡ true
+    → RefinesAlgorithm s (get_index o k >>= λ v. l (Some v)) t a
+    → RefinesAlgorithm s (element o k >>= l) t a
+element_there s o k there l t a is so refines =
+    looks s (λ store. element_if (has_index store o k) o k >>= l) (get_index o k >>= λ v. l (Some v)) t a same refines
   where
     same : (get_index o k >>= λ v. l (Some v)) ≡ (element_if (has_index s.store o k) o k >>= l)
     same =
@@ -95,17 +100,18 @@ element_there s o k there l t a is so leads =
 
 -- or it is missing
 pub element_missing : (s : State) (o : ObjId) (k : ℕ) (there : Bool) (l : Option Value → Algorithm Value) (t : State)
-    (a : Act) → there ≡ has_index s.store o k → there ≡ false → Works s (l None) t a → Works s (element o k >>= l) t a
-element_missing s o k there l t a is so leads =
+    (a : Act) → there ≡ has_index s.store o k → there ≡ false → RefinesAlgorithm s (l None) t a
+    → RefinesAlgorithm s (element o k >>= l) t a
+element_missing s o k there l t a is so refines =
     looks s (λ store. element_if (has_index store o k) o k >>= l) (l None) t a
-    (ap (λ (b : Bool). element_if b o k >>= l) (sym so ∙ is)) leads
+    (ap (λ (b : Bool). element_if b o k >>= l) (sym so ∙ is)) refines
 
 -- a builtin waits for the element at an index
 pub element_waits : (s u : State) (p : Progress) (o : ObjId) (k : ℕ) (there : Bool) (l : Option Value → Algorithm Value)
     (t : State) (a : Act) → there ≡ has_index s.store o k → there ≡ true
     → ((v : Value) → progress_after p v ≡ l (Some v)) → AlgorithmWaits s (algorithm.Builtin p) u
-    → Works u (get_index o k) t a → Works s (element o k >>= l) t a
-element_waits s u p o k there l t a is so after waits leads =
+    → RefinesAlgorithm u (get_index o k) t a → RefinesAlgorithm s (element o k >>= l) t a
+element_waits s u p o k there l t a is so after waits refines =
     element_there s o k there l t a is so
-    (subst (λ (g : Value → Algorithm Value). Works s (get_index o k >>= g) t a) (fun_ext after)
-    (waits.works (get_index o k) t a leads))
+    (subst (λ (g : Value → Algorithm Value). RefinesAlgorithm s (get_index o k >>= g) t a) (fun_ext after)
+    (waits.works (get_index o k) t a refines))

@@ -3,7 +3,7 @@ ghost use Rattle.std.specs.Prelude.{◌≡◌, codes, slice_index_or, IfOk};
 ghost use Rattle.jl_meaning.specs.Errors.{throw_type_error};
 ghost use Rattle.jl_meaning.specs.builtins.Arguments.{need_function, need_object};
 ghost use Rattle.jl_store.specs.Answers.{ends_with};
-ghost use Rattle.jl_store.specs.Comes.{Comes};
+ghost use Rattle.jl_store.specs.BigStep.{BigStep};
 ghost use Rattle.jl_value.specs.declared.value.Value.TheVariants as value;
 
 use jl_store::{Answer, Store};
@@ -23,7 +23,7 @@ pub fn argument(alloc: Global, args: &[Value], index: usize) -> Result<Value, No
 
 /// The object that a value is. It throws a TypeError for any other value.
 pub fn need_object(store: &mut Store, v: &Value) -> Result<Answer<ObjId>, NoMemory>
-    ensures { IfOk result (λ answer. Comes (need_object v.now) store.old store.new (ends_with answer)) }
+    ensures { IfOk result (λ answer. BigStep (need_object v.now) store.old store.new (ends_with answer)) }
 {
     let Value::Obj(id) = v else {
         let thrown = store.throw_type_error("not an object")?;
@@ -34,7 +34,7 @@ pub fn need_object(store: &mut Store, v: &Value) -> Result<Answer<ObjId>, NoMemo
 
 /// The function that a value is (9.11). It throws a TypeError for any other value.
 pub fn need_function(store: &mut Store, v: &Value) -> Result<Answer<ObjId>, NoMemory>
-    ensures { IfOk result (λ answer. Comes (need_function v.now) store.old store.new (ends_with answer)) }
+    ensures { IfOk result (λ answer. BigStep (need_function v.now) store.old store.new (ends_with answer)) }
 {
     let Value::Obj(id) = v else {
         return no_function(store);
@@ -48,7 +48,7 @@ pub fn need_function(store: &mut Store, v: &Value) -> Result<Answer<ObjId>, NoMe
 /// Throws that a value is no function.
 #[tactic(auto, using(jl_store::proofs::Chains::error_comes))]
 fn no_function(store: &mut Store) -> Result<Answer<ObjId>, NoMemory>
-    ensures { IfOk result (λ answer. Comes (throw_type_error (codes "not a function")) store.old store.new
+    ensures { IfOk result (λ answer. BigStep (throw_type_error (codes "not a function")) store.old store.new
         (ends_with answer)) }
 {
     let thrown = store.throw_type_error("not a function")?;

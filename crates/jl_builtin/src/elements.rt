@@ -6,7 +6,7 @@ ghost use Rattle.jl_meaning.specs.Parts.{give, ◌>>=◌ as ◌then◌};
 ghost use Rattle.jl_meaning.specs.builtins.Elements.{delete_index, get_index, has_index, put_index, put_length};
 ghost use Rattle.jl_state.specs.Clauses.{Computes, RankAtMost};
 ghost use Rattle.jl_store.specs.Answers.{ends_with};
-ghost use Rattle.jl_store.specs.Comes.{Comes};
+ghost use Rattle.jl_store.specs.BigStep.{BigStep};
 
 use jl_algorithm::{delete, get, put};
 use jl_num::{Num, NumberOutside};
@@ -22,8 +22,8 @@ pub fn get_index<'p>(
     object: ObjId,
     index: usize,
 ) -> Result<Act<'p>, NoMemory>
-    ensures leads { Computes state.old (get_index object index) result state.new }
-    ensures falls { RankAtMost state.old 4 result state.new }
+    ensures refines { Computes state.old (get_index object index) result state.new }
+    ensures bounded { RankAtMost state.old 4 result state.new }
 {
     let alloc = state.alloc();
     let name = index_name(alloc, index)?;
@@ -38,8 +38,8 @@ pub fn put_index<'p>(
     v: Value,
     gives: Value,
 ) -> Result<Act<'p>, NoMemory>
-    ensures leads { Computes state.old (put_index object index v then λ _. give gives) result state.new }
-    ensures falls { RankAtMost state.old 42 result state.new }
+    ensures refines { Computes state.old (put_index object index v then λ _. give gives) result state.new }
+    ensures bounded { RankAtMost state.old 42 result state.new }
 {
     let alloc = state.alloc();
     let name = index_name(alloc, index)?;
@@ -54,8 +54,8 @@ pub fn put_length<'p>(
     length: usize,
     gives: Value,
 ) -> Result<Act<'p>, NoMemory>
-    ensures leads { Computes state.old (put_length object length then λ _. give gives) result state.new }
-    ensures falls { RankAtMost state.old 42 result state.new }
+    ensures refines { Computes state.old (put_length object length then λ _. give gives) result state.new }
+    ensures bounded { RankAtMost state.old 42 result state.new }
 {
     let alloc = state.alloc();
     let Ok(n) = number(length) else {
@@ -82,7 +82,7 @@ pub fn delete_index<'p>(
     index: usize,
 ) -> Result<Answer<()>, NoMemory>
     ensures stored { state.new ≡ record state.old { store = state.new.store } }
-    ensures comes { IfOk result (λ answer. Comes (delete_index object index) state.old.store state.new.store
+    ensures comes { IfOk result (λ answer. BigStep (delete_index object index) state.old.store state.new.store
         (ends_with answer)) }
 {
     let alloc = state.alloc();

@@ -5,7 +5,7 @@ ghost use Rattle.jl_meaning.specs.builtins.Arguments.{give_object};
 ghost use Rattle.jl_meaning.specs.builtins.Elements.{add_in_turns, add_index};
 ghost use Rattle.jl_state.specs.Clauses.{Computes, RankAtMost};
 ghost use Rattle.jl_store.specs.Answers.{fault_seen, finish_of};
-ghost use Rattle.jl_store.specs.Comes.{Comes};
+ghost use Rattle.jl_store.specs.BigStep.{BigStep};
 
 use crate::lists::value_from;
 use crate::turns::go_on;
@@ -27,7 +27,7 @@ pub fn add_index(
     index: usize,
     v: Value,
 ) -> Result<Finished<()>, NoMemory>
-    ensures { IfOk result (λ end. Comes (add_index array index v) store.old store.new (finish_of end)) }
+    ensures { IfOk result (λ end. BigStep (add_index array index v) store.old store.new (finish_of end)) }
 {
     let name = index_name(alloc, index)?;
     let change = plain_change(v);
@@ -47,9 +47,9 @@ pub fn fill_array<'p>(
     values: List<Value>,
     from: usize,
 ) -> Result<Act<'p>, NoMemory>
-    ensures leads { Computes state.old (add_in_turns array from (drop from values) then λ _. give_object array)
+    ensures refines { Computes state.old (add_in_turns array from (drop from values) then λ _. give_object array)
         result state.new }
-    ensures falls { RankAtMost state.old 6 result state.new }
+    ensures bounded { RankAtMost state.old 6 result state.new }
 {
     let alloc = state.alloc();
     let found = value_from(alloc, values.items(), from)?;
@@ -73,9 +73,9 @@ fn add_and_go_on<'p>(
     values: List<Value>,
     next: usize,
 ) -> Result<Act<'p>, NoMemory>
-    ensures leads { Computes state.old (add_index array index v then λ _. (add_in_turns array next (drop next
+    ensures refines { Computes state.old (add_index array index v then λ _. (add_in_turns array next (drop next
         values) then λ _. give_object array)) result state.new }
-    ensures falls { RankAtMost state.old 10 result state.new }
+    ensures bounded { RankAtMost state.old 10 result state.new }
 {
     let alloc = state.alloc();
     let answer = add_index(alloc, &mut state.store, array, index, v)?;

@@ -15,6 +15,6 @@ pub use filling::{add_index, fault_of, fill_array};
 pub use integers::{
     clamp, index_or_none, integer_of, length_of, number_of_primitive, relative_index,
 };
-pub use lists::{copy_of, rest_of, value_from, with_units, with_values};
+pub use lists::{continuation_of, copy_of, value_from, with_units, with_values};
 pub use turns::{give_text, go_on, unsupported};
 pub use waiting::{wait_for_number, wait_for_string};

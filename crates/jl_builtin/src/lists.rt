@@ -27,7 +27,11 @@ pub fn copy_of(alloc: Global, values: &[Value]) -> Result<List<Value>, NoMemory>
 }
 
 /// The values from an index on.
-pub fn rest_of(alloc: Global, values: &[Value], from: usize) -> Result<List<Value>, NoMemory>
+pub fn continuation_of(
+    alloc: Global,
+    values: &[Value],
+    from: usize,
+) -> Result<List<Value>, NoMemory>
     ensures { IfOk result (λ rest. rest ≡ drop from values.now) }
 {
     match values.get(from..) {

@@ -17,8 +17,8 @@ pub fn wait_for_number<'p>(
     progress: Progress,
     v: Value,
 ) -> Result<Act<'p>, NoMemory>
-    ensures leads { Computes state.old (to_primitive number_hint v then progress_after progress) result state.new }
-    ensures falls { RankAtMost state.old (rank_progress progress + 16) result state.new }
+    ensures refines { Computes state.old (to_primitive number_hint v then progress_after progress) result state.new }
+    ensures bounded { RankAtMost state.old (rank_progress progress + 16) result state.new }
 {
     state.push_builtin(progress)?;
     to_primitive(state, v, Hint::Number)
@@ -30,8 +30,8 @@ pub fn wait_for_string<'p>(
     progress: Progress,
     v: Value,
 ) -> Result<Act<'p>, NoMemory>
-    ensures leads { Computes state.old (to_primitive string_hint v then progress_after progress) result state.new }
-    ensures falls { RankAtMost state.old (rank_progress progress + 16) result state.new }
+    ensures refines { Computes state.old (to_primitive string_hint v then progress_after progress) result state.new }
+    ensures bounded { RankAtMost state.old (rank_progress progress + 16) result state.new }
 {
     state.push_builtin(progress)?;
     to_primitive(state, v, Hint::Text)

@@ -8,7 +8,7 @@ use Rattle.jl_meaning.specs.Noting.{emits}
 use Rattle.jl_meaning.specs.Parts.{give, ◌>>=◌}
 use Rattle.jl_meaning.specs.forms.Members.{put_member}
 use Rattle.jl_meaning.specs.forms.Operators.{operate}
-use Rattle.jl_state.specs.Rest.{Gives}
+use Rattle.jl_state.specs.Rest.{RefinesExpression}
 use Rattle.jl_state.specs.Steps.{ValueWaits}
 use Rattle.jl_state.specs.declared.act.Act.{Act}
 use Rattle.jl_state.specs.declared.hook.HookId.{HookId}
@@ -19,12 +19,12 @@ use Rattle.jl_state.specs.declared.value_frame.ValueFrame.TheVariants as waiting
 pub assigns : (s t u : State) (a : Act) (id : HookId) (second third : OpId) (strict : Bool) (o : BinOp)
     (base : Value) (x : Name) (held operand : Value) → second ≡ record { 0 = id.id + 1 }
     → third ≡ record { 0 = id.id + 2 } → ValueWaits s (waiting.PutMember true third base x strict) t
-    → Gives t (operate emits second.0 o held operand) u a
-    → Gives s (operate emits (id.id + 1) o held operand >>= λ v.
+    → RefinesExpression t (operate emits second.0 o held operand) u a
+    → RefinesExpression s (operate emits (id.id + 1) o held operand >>= λ v.
     put_member emits (id.id + 2) strict base x v >>= λ _. give v) u a
-assigns s t u a id second third strict o base x held operand is_second is_third waits leads =
-    subst (λ (i : OpId). Gives s (operate emits i.0 o held operand >>= λ v.
+assigns s t u a id second third strict o base x held operand is_second is_third waits refines =
+    subst (λ (i : OpId). RefinesExpression s (operate emits i.0 o held operand >>= λ v.
     put_member emits (id.id + 2) strict base x v >>= λ _. give v) u a) is_second
-    (subst (λ (i : OpId). Gives s (operate emits second.0 o held operand >>= λ v.
+    (subst (λ (i : OpId). RefinesExpression s (operate emits second.0 o held operand >>= λ v.
     put_member emits i.0 strict base x v >>= λ _. give v) u a) is_third
-    (waits.gives (operate emits second.0 o held operand) u a leads))
+    (waits.gives (operate emits second.0 o held operand) u a refines))

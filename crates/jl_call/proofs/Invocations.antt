@@ -15,7 +15,7 @@ use Rattle.jl_meaning.specs.Noting.{emits}
 use Rattle.jl_meaning.specs.Parts.{begin_call, give, lift, ◌>>=◌, Algorithm, Answer, CallOf, Part}
 use Rattle.jl_meaning.specs.Store.{Store}
 use Rattle.jl_meaning.specs.forms.Calls.{can_be_called, function_of, invoke, no_function}
-use Rattle.jl_state.specs.Rest.{Gives, Works}
+use Rattle.jl_state.specs.Rest.{RefinesExpression, RefinesAlgorithm}
 use Rattle.jl_state.specs.Words.{call_of, noting, table_of}
 use Rattle.jl_state.specs.declared.act.Act.{Act}
 use Rattle.jl_state.specs.declared.act.Act.TheVariants as act
@@ -51,45 +51,47 @@ module _ (s t : State) (a : Act) (emitting : Bool) (id : ℕ) (callee this : Val
       (record { callee = f; this = this; args = args; by_new = by_new })
 
   by_found : (o : Option ObjId) → o ≡ function_found by_new s.store.heap callee
-      → Gives s (lift (given_or_thrown by_new o) >>= called) t a
-      → Gives s (invoke (table_of s.functions) (noting emitting) id callee this args by_new) t a
+      → RefinesExpression s (lift (given_or_thrown by_new o) >>= called) t a
+      → RefinesExpression s (invoke (table_of s.functions) (noting emitting) id callee this args by_new) t a
   unfolding invoke
-  by_found o is leads =
+  by_found o is refines =
       gives_looked s (λ (store : Store). lift (function_of by_new store.heap callee) >>= called)
       (lift (given_or_thrown by_new o) >>= called) t a
       (ap (λ (q : Option ObjId). lift (given_or_thrown by_new q) >>= called) is
       ∙ ap (λ (p : Algorithm ObjId). lift p >>= called) (function_is by_new s.store.heap callee))
-      leads
+      refines
 
   -- the callee is this function
-  pub invokes : (f : ObjId) → Some f ≡ function_found by_new s.store.heap callee → Gives s (called f) t a
-      → Gives s (invoke (table_of s.functions) (noting emitting) id callee this args by_new) t a
-  invokes f is leads = by_found (Some f) is leads
+  pub invokes : (f : ObjId) → Some f ≡ function_found by_new s.store.heap callee → RefinesExpression s (called f) t a
+      → RefinesExpression s (invoke (table_of s.functions) (noting emitting) id callee this args by_new) t a
+  invokes f is refines = by_found (Some f) is refines
 
   -- it is none
   pub refuses : (message : List ℕ) → message ≡ no_function by_new → None ≡ function_found by_new s.store.heap callee
-      → Works s (throw_error TypeError message) t a
-      → Gives s (invoke (table_of s.functions) (noting emitting) id callee this args by_new) t a
-  refuses message same is leads =
+      → RefinesAlgorithm s (throw_error TypeError message) t a
+      → RefinesExpression s (invoke (table_of s.functions) (noting emitting) id callee this args by_new) t a
+  refuses message same is refines =
       by_found None is
       (gives_left_out s TypeError (no_function by_new) called t a
-      (subst (λ m. Works s (throw_error TypeError m) t a) same leads))
+      (subst (λ m. RefinesAlgorithm s (throw_error TypeError m) t a) same refines))
 
 -- a call of which a hook tells
 pub invokes_telling : (s t : State) (a : Act) (emitting : Bool) (id : ℕ) (c : Invocation) → emitting ≡ true
-    → Gives s (invoke_function (table_of s.functions) emits id (call_of c)) t a
-    → Gives s (invoke_function (table_of s.functions) (noting emitting) id (call_of c)) t a
-invokes_telling s t a emitting id c is leads =
-    subst (λ (b : Bool). Gives s (invoke_function (table_of s.functions) (noting b) id (call_of c)) t a) (sym is) leads
+    → RefinesExpression s (invoke_function (table_of s.functions) emits id (call_of c)) t a
+    → RefinesExpression s (invoke_function (table_of s.functions) (noting emitting) id (call_of c)) t a
+invokes_telling s t a emitting id c is refines =
+    subst (λ (b : Bool). RefinesExpression s (invoke_function (table_of s.functions) (noting b) id (call_of c)) t a)
+    (sym is) refines
 
 -- a call of which no hook tells
 pub invokes_silently : (s : State) (emitting : Bool) (id : ℕ) (c : Invocation) → emitting ≡ false
-    → Gives s (invoke_function (table_of s.functions) (noting emitting) id (call_of c)) s (act.Call c)
+    → RefinesExpression s (invoke_function (table_of s.functions) (noting emitting) id (call_of c)) s (act.Call c)
 invokes_silently s emitting id c is =
-    subst (λ (b : Bool). Gives s (invoke_function (table_of s.functions) (noting b) id (call_of c)) s (act.Call c))
+    subst (λ (b : Bool). RefinesExpression s (invoke_function (table_of s.functions) (noting b) id (call_of c)) s
+    (act.Call c))
     (sym is) (record { is = noted.is })
   where
-    noted : Gives s (begin_call CallOf (call_of c) >>= λ v. Look (λ store.
+    noted : RefinesExpression s (begin_call CallOf (call_of c) >>= λ v. Look (λ store.
         Perform (record { 0 = id + 1 }, op.InvokePost c.callee (seen_of store.heap v)) (give v))) s (act.Call c)
     noted =
         gives_noted s (λ store v. (record { 0 = id + 1 }, op.InvokePost c.callee (seen_of store.heap v)))

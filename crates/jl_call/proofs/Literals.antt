@@ -7,7 +7,7 @@ use Rattle.jl_value.specs.declared.value.Value.{Value}
 use Rattle.jl_meaning.specs.Expressions.{evaluate_all}
 use Rattle.jl_meaning.specs.FunctionObjects.{FunctionTable}
 use Rattle.jl_meaning.specs.Parts.{◌>>=◌, Answer, Context, Part}
-use Rattle.jl_state.specs.Rest.{Gives}
+use Rattle.jl_state.specs.Rest.{RefinesExpression}
 use Rattle.jl_state.specs.Trees.{plain_forest}
 use Rattle.jl_state.specs.Words.{table_of}
 use Rattle.jl_state.specs.declared.act.Act.{Act}
@@ -23,8 +23,11 @@ skipped table (suc n) so_far (e ∷ l) c = skipped table n so_far l c
 -- the literals are left out
 pub skips_literals : (s : State) (from : ℕ) (so_far : List Value) (l : List Expr) (c : Context)
     (k : List Value → Part (Answer Value)) (t : State) (a : Act)
-    → Gives s (evaluate_all (table_of s.functions) 0 so_far (plain_forest (view_expressions (drop from l))) c >>= k) t a
-    → Gives s (evaluate_all (table_of s.functions) from so_far (plain_forest (view_expressions l)) c >>= k) t a
-skips_literals s from so_far l c k t a leads =
-    subst (λ (p : Part (Answer (List Value))). Gives s (p >>= k) t a) (skipped (table_of s.functions) from so_far l c)
-    leads
+    → RefinesExpression s (evaluate_all (table_of s.functions) 0 so_far
+    (plain_forest (view_expressions (drop from l))) c >>= k) t a
+    → RefinesExpression s (evaluate_all (table_of s.functions) from so_far
+    (plain_forest (view_expressions l)) c >>= k) t a
+skips_literals s from so_far l c k t a refines =
+    subst (λ (p : Part (Answer (List Value))). RefinesExpression s (p >>= k) t a)
+    (skipped (table_of s.functions) from so_far l c)
+    refines

@@ -18,7 +18,7 @@ use Rattle.jl_meaning.specs.Parts.{give, lift, or_fault, ◌>>=◌, Answer, Numb
 use Rattle.jl_meaning.specs.forms.Hooks.{hooked_unary, hooked_update}
 use Rattle.jl_meaning.specs.forms.Operators.{operate_on, update}
 use Rattle.jl_state.specs.AlgorithmFrames.{number_of_primitive}
-use Rattle.jl_state.specs.Rest.{Gives, Works}
+use Rattle.jl_state.specs.Rest.{RefinesExpression, RefinesAlgorithm}
 use Rattle.jl_state.specs.Steps.{ValueWaits}
 use Rattle.jl_state.specs.declared.act.Act.{Act}
 use Rattle.jl_state.specs.declared.act.Act.TheVariants as act
@@ -55,8 +55,8 @@ operated id v o =
 pub operates_hooked : (s t : State) (a : Act) (id : ℕ) (v : Value) (o : UnKind)
     → (o ≡ unary.Minus) ⊎ ((o ≡ unary.Plus) ⊎ ((o ≡ unary.Not) ⊎ ((o ≡ unary.Tilde) ⊎ ((o ≡ unary.Typeof)
     ⊎ (o ≡ unary.Void)))))
-    → Gives s (operate_on emits id o v) t a → Gives s (hooked_unary id o v) t a
-operates_hooked s t a id v o is leads = subst (λ q. Gives s q t a) (operated id v o is) leads
+    → RefinesExpression s (operate_on emits id o v) t a → RefinesExpression s (hooked_unary id o v) t a
+operates_hooked s t a id v o is refines = subst (λ q. RefinesExpression s q t a) (operated id v o is) refines
 
 -- `++` and `--`
 
@@ -91,33 +91,38 @@ module _ (id : ℕ) (o : UnKind) (held : Value) where
 
 -- the operand of a hook is converted first
 pub updates_hooked : (s t u : State) (a : Act) (id : HookId) (up : Bool) (held v : Value) → held ≡ v
-    → ValueWaits s (waiting.UpdateOperandPrimitive id up held) t → Works t (to_primitive number_hint v) u a
-    → Gives s (hooked_update id.id (update_kind up) v) u a
-updates_hooked s t u a id up held v same waits leads =
-    subst (λ (w : Value). Gives s (hooked_update id.id (update_kind up) w) u a) same
-    (subst (λ q. Gives s q u a) (updated id.id (update_kind up) held)
+    → ValueWaits s (waiting.UpdateOperandPrimitive id up held) t → RefinesAlgorithm t (to_primitive number_hint v) u a
+    → RefinesExpression s (hooked_update id.id (update_kind up) v) u a
+updates_hooked s t u a id up held v same waits refines =
+    subst (λ (w : Value). RefinesExpression s (hooked_update id.id (update_kind up) w) u a) same
+    (subst (λ q. RefinesExpression s q u a) (updated id.id (update_kind up) held)
     (waits.works (to_primitive number_hint held) u a
-    (subst (λ (w : Value). Works t (to_primitive number_hint w) u a) (sym same) leads)))
+    (subst (λ (w : Value). RefinesAlgorithm t (to_primitive number_hint w) u a) (sym same) refines)))
 
 module _ (s t : State) (a : Act) (k : Number → Part (Answer Value)) (o : Option Number) where
   -- a number that there is, and one that there isn't
-  pub number_there : (n : Number) → Some n ≡ o → Gives s (k n) t a
-      → Gives s (lift (or_fault NumberOutside o) >>= k) t a
-  number_there n is leads =
-      subst (λ (q : Option Number). Gives s (lift (or_fault NumberOutside q) >>= k) t a) is leads
+  pub number_there : (n : Number) → Some n ≡ o → RefinesExpression s (k n) t a
+      → RefinesExpression s (lift (or_fault NumberOutside o) >>= k) t a
+  number_there n is refines =
+      subst (λ (q : Option Number). RefinesExpression s (lift (or_fault NumberOutside q) >>= k) t a) is refines
 
-  pub number_outside : None ≡ o → Gives s (lift (or_fault NumberOutside o) >>= k) s (act.Fault fault.NumberOutside)
+  pub number_outside : None ≡ o → RefinesExpression s (lift (or_fault NumberOutside o) >>= k) s
+      (act.Fault fault.NumberOutside)
   number_outside is =
-      subst (λ (q : Option Number). Gives s (lift (or_fault NumberOutside q) >>= k) s (act.Fault fault.NumberOutside))
+      subst (λ (q : Option Number). RefinesExpression s (lift (or_fault NumberOutside q) >>= k) s
+      (act.Fault fault.NumberOutside))
       is
       (record { is = λ kept told. refl })
 
 module _ (s t : State) (a : Act) (k : Value → Part (Answer Value)) (o : Option Number) where
   -- the same of a number that is given as a value
-  pub value_there : (n : Number) → Some n ≡ o → Gives s (k (value.Num n)) t a → Gives s (lift (give_number o) >>= k) t a
-  value_there n is leads = subst (λ (q : Option Number). Gives s (lift (give_number q) >>= k) t a) is leads
+  pub value_there : (n : Number) → Some n ≡ o → RefinesExpression s (k (value.Num n)) t a
+      → RefinesExpression s (lift (give_number o) >>= k) t a
+  value_there n is refines = subst (λ (q : Option Number). RefinesExpression s
+      (lift (give_number q) >>= k) t a) is refines
 
-  pub value_outside : None ≡ o → Gives s (lift (give_number o) >>= k) s (act.Fault fault.NumberOutside)
+  pub value_outside : None ≡ o → RefinesExpression s (lift (give_number o) >>= k) s (act.Fault fault.NumberOutside)
   value_outside is =
-      subst (λ (q : Option Number). Gives s (lift (give_number q) >>= k) s (act.Fault fault.NumberOutside)) is
+      subst (λ (q : Option Number). RefinesExpression s (lift (give_number q) >>= k) s
+      (act.Fault fault.NumberOutside)) is
       (record { is = λ kept told. refl })

@@ -15,22 +15,22 @@ use crate::leaves::take_leaves;
 use crate::openers::start_opener;
 use crate::waiting::evaluate_argument;
 use jl_ast::Expr;
-use jl_state::{Act, Arguments, ArgumentsFor, Boxed, Here, HookId, Remaining, State, ValueFrame};
+use jl_state::{Act, ArgumentUse, Arguments, Boxed, Here, HookId, Remaining, State, ValueFrame};
 use jl_text::{List, NoMemory};
 use jl_value::Value;
 
 /// The arguments from an index on are evaluated, and then something is done with their values (11.2.4).
 pub fn start_arguments<'p>(
     state: &mut State<'p>,
-    purpose: ArgumentsFor<'p>,
+    purpose: ArgumentUse<'p>,
     args: &'p List<Expr>,
     from: usize,
     here: Here,
 ) -> Result<Act<'p>, NoMemory>
-    ensures leads { Evaluates state.old (evaluate_all (table_of state.old.functions) from [] (plain_forest
+    ensures refines { Evaluates state.old (evaluate_all (table_of state.old.functions) from [] (plain_forest
         (view_expressions args.now)) (context_of state.old.calls here) then arguments_after (table_of
         state.old.functions) state.old.calls purpose.entry here) result state.new }
-    ensures falls { RankAtMost state.old 134 result state.new }
+    ensures bounded { RankAtMost state.old 134 result state.new }
 {
     let alloc = state.alloc();
     let rest = Remaining { list: args, from };
@@ -43,8 +43,8 @@ pub fn step_argument<'p>(
     arguments: Boxed<Arguments<'p>>,
     v: Value,
 ) -> Result<Act<'p>, NoMemory>
-    ensures leads { Resumes state.old (ValueFrame.Argument arguments.entry) v result state.new }
-    ensures falls { RankAtMost state.old 134 result state.new }
+    ensures refines { Resumes state.old (ValueFrame.Argument arguments.entry) v result state.new }
+    ensures bounded { RankAtMost state.old 134 result state.new }
 {
     let Arguments {
         purpose,
@@ -60,15 +60,15 @@ pub fn step_argument<'p>(
 /// The arguments that are left are evaluated, and then something is done with all values.
 fn evaluate_rest<'p>(
     state: &mut State<'p>,
-    purpose: ArgumentsFor<'p>,
+    purpose: ArgumentUse<'p>,
     so_far: List<Value>,
     rest: Remaining<'p, Expr>,
     here: Here,
 ) -> Result<Act<'p>, NoMemory>
-    ensures leads { Evaluates state.old (evaluate_all (table_of state.old.functions) 0 so_far (plain_forest
+    ensures refines { Evaluates state.old (evaluate_all (table_of state.old.functions) 0 so_far (plain_forest
         (view_expressions (items_left rest.entry))) (context_of state.old.calls here) then arguments_after (table_of
         state.old.functions) state.old.calls purpose.entry here) result state.new }
-    ensures falls { RankAtMost state.old 134 result state.new }
+    ensures bounded { RankAtMost state.old 134 result state.new }
 {
     let mut values = so_far;
     let next = take_leaves(state, &mut values, rest, here)?;
@@ -89,16 +89,16 @@ fn evaluate_rest<'p>(
 /// Something is done with the values of arguments.
 fn use_arguments<'p>(
     state: &mut State<'p>,
-    purpose: ArgumentsFor<'p>,
+    purpose: ArgumentUse<'p>,
     values: List<Value>,
     here: Here,
 ) -> Result<Act<'p>, NoMemory>
-    ensures leads { Evaluates state.old (arguments_after (table_of state.old.functions) state.old.calls
+    ensures refines { Evaluates state.old (arguments_after (table_of state.old.functions) state.old.calls
         purpose.entry here values) result state.new }
-    ensures falls { RankAtMost state.old 110 result state.new }
+    ensures bounded { RankAtMost state.old 110 result state.new }
 {
     match purpose {
-        ArgumentsFor::Invoke {
+        ArgumentUse::Invoke {
             callee,
             this,
             by_new,
@@ -106,15 +106,15 @@ fn use_arguments<'p>(
             let id = HookId::own().call();
             invoke(state, false, id, callee, this, values, by_new)
         }
-        ArgumentsFor::Hook { id, hook } => {
+        ArgumentUse::Hook { id, hook } => {
             if !state.spend() {
                 return Ok(Act::Spent);
             }
             enter_hook(state, id, hook, &values, here)
         }
-        ArgumentsFor::Opener { id, opener, second } => start_opener(
+        ArgumentUse::Opener { id, opener, second } => start_opener(
             state, id, opener, &values, second, here,
         ),
-        ArgumentsFor::Close(pending) => close(state, pending, values, here),
+        ArgumentUse::Close(pending) => close(state, pending, values, here),
     }
 }

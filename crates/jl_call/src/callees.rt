@@ -11,7 +11,7 @@ use crate::arguments::start_arguments;
 use crate::keys::call_by_key;
 use jl_ast::Expr;
 use jl_member::{member_name, quick_key};
-use jl_state::{Act, ArgumentsFor, Here, KeyFor, State, ValueFrame};
+use jl_state::{Act, ArgumentUse, Here, MemberUse, State, ValueFrame};
 use jl_text::{List, NoMemory, Text};
 use jl_value::{Value, share};
 
@@ -24,10 +24,10 @@ pub fn step_callee<'p>(
     here: Here,
     v: Value,
 ) -> Result<Act<'p>, NoMemory>
-    ensures leads { Resumes state.old (ValueFrame.Callee this by_new args.entry here) v result state.new }
-    ensures falls { RankAtMost state.old 138 result state.new }
+    ensures refines { Resumes state.old (ValueFrame.Callee this by_new args.entry here) v result state.new }
+    ensures bounded { RankAtMost state.old 138 result state.new }
 {
-    let purpose = ArgumentsFor::Invoke {
+    let purpose = ArgumentUse::Invoke {
         callee: v,
         this,
         by_new,
@@ -43,8 +43,8 @@ pub fn step_callee_dot_base<'p>(
     here: Here,
     v: Value,
 ) -> Result<Act<'p>, NoMemory>
-    ensures leads { Resumes state.old (ValueFrame.CalleeDotBase key.entry args.entry here) v result state.new }
-    ensures falls { RankAtMost state.old 202 result state.new }
+    ensures refines { Resumes state.old (ValueFrame.CalleeDotBase key.entry args.entry here) v result state.new }
+    ensures bounded { RankAtMost state.old 202 result state.new }
 {
     let alloc = state.alloc();
     let key = Value::Text(key.share(alloc)?);
@@ -59,8 +59,8 @@ pub fn step_callee_index_base<'p>(
     here: Here,
     v: Value,
 ) -> Result<Act<'p>, NoMemory>
-    ensures leads { Resumes state.old (ValueFrame.CalleeIndexBase key.entry args.entry here) v result state.new }
-    ensures falls { RankAtMost state.old 206 result state.new }
+    ensures refines { Resumes state.old (ValueFrame.CalleeIndexBase key.entry args.entry here) v result state.new }
+    ensures bounded { RankAtMost state.old 206 result state.new }
 {
     let frame = ValueFrame::CalleeIndexKey {
         base: v,
@@ -78,8 +78,8 @@ pub fn step_callee_index_key<'p>(
     here: Here,
     v: Value,
 ) -> Result<Act<'p>, NoMemory>
-    ensures leads { Resumes state.old (ValueFrame.CalleeIndexKey base args.entry here) v result state.new }
-    ensures falls { RankAtMost state.old 202 result state.new }
+    ensures refines { Resumes state.old (ValueFrame.CalleeIndexKey base args.entry here) v result state.new }
+    ensures bounded { RankAtMost state.old 202 result state.new }
 {
     call_member(state, base, v, args, here)
 }
@@ -94,16 +94,16 @@ fn call_member<'p>(
     args: &'p List<Expr>,
     here: Here,
 ) -> Result<Act<'p>, NoMemory>
-    ensures leads { Evaluates state.old (call_member (table_of state.old.functions) 0 0 base key (evaluate_all
+    ensures refines { Evaluates state.old (call_member (table_of state.old.functions) 0 0 base key (evaluate_all
         (table_of state.old.functions) 0 [] (plain_forest (view_expressions args.now)) (context_of state.old.calls
         here))) result state.new }
-    ensures falls { RankAtMost state.old 182 result state.new }
+    ensures bounded { RankAtMost state.old 182 result state.new }
 {
     let alloc = state.alloc();
     if let Some(name) = quick_key(alloc, &base, &key)? {
         return call_by_key(state, base, args, here, name);
     }
     let object = share(alloc, &base)?;
-    let purpose = KeyFor::Call { base, args, here };
+    let purpose = MemberUse::Call { base, args, here };
     member_name(state, &object, key, purpose)
 }

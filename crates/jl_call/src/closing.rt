@@ -18,7 +18,7 @@ use crate::waiting::evaluate_argument;
 use jl_ast::{BinOp, Expr};
 use jl_member::put_member;
 use jl_operator::operate;
-use jl_state::{Act, Arguments, ArgumentsFor, Here, HookId, Pending, Remaining, State, ValueFrame};
+use jl_state::{Act, ArgumentUse, Arguments, Here, HookId, Pending, Remaining, State, ValueFrame};
 use jl_text::{List, NoMemory, Text};
 use jl_value::{Value, share};
 
@@ -29,10 +29,10 @@ pub(crate) fn start_closing<'p>(
     args: &'p List<Expr>,
     here: Here,
 ) -> Result<Act<'p>, NoMemory>
-    ensures leads { Evaluates state.old (evaluate_all (table_of state.old.functions) 0 [] (plain_forest
+    ensures refines { Evaluates state.old (evaluate_all (table_of state.old.functions) 0 [] (plain_forest
         (view_expressions args.now)) (context_of state.old.calls here) then close (table_of state.old.functions)
         (context_of state.old.calls here) (pending_of pending)) result state.new }
-    ensures falls { RankAtMost state.old 134 result state.new }
+    ensures bounded { RankAtMost state.old 134 result state.new }
 {
     let mut values = List::new(state.alloc());
     let rest = Remaining {
@@ -44,7 +44,7 @@ pub(crate) fn start_closing<'p>(
         None => close(state, pending, values, here),
         Some((e, rest)) => {
             let arguments = Arguments {
-                purpose: ArgumentsFor::Close(pending),
+                purpose: ArgumentUse::Close(pending),
                 so_far: values,
                 rest,
                 here,
@@ -62,9 +62,9 @@ pub(crate) fn close<'p>(
     values: List<Value>,
     here: Here,
 ) -> Result<Act<'p>, NoMemory>
-    ensures leads { Evaluates state.old (close (table_of state.old.functions) (context_of state.old.calls here)
+    ensures refines { Evaluates state.old (close (table_of state.old.functions) (context_of state.old.calls here)
         (pending_of pending) values) result state.new }
-    ensures falls { RankAtMost state.old 110 result state.new }
+    ensures bounded { RankAtMost state.old 110 result state.new }
 {
     let alloc = state.alloc();
     match pending {
@@ -104,9 +104,9 @@ fn put_pending<'p>(
     name: Text,
     value: Value,
 ) -> Result<Act<'p>, NoMemory>
-    ensures leads { Evaluates state.old (put_member emits id.id strict base name value then λ _. give value) result
+    ensures refines { Evaluates state.old (put_member emits id.id strict base name value then λ _. give value) result
         state.new }
-    ensures falls { RankAtMost state.old 56 result state.new }
+    ensures bounded { RankAtMost state.old 56 result state.new }
 {
     let alloc = state.alloc();
     let gives = share(alloc, &value)?;
@@ -125,9 +125,9 @@ fn assign_pending<'p>(
     held: Value,
     operand: Value,
 ) -> Result<Act<'p>, NoMemory>
-    ensures leads { Evaluates state.old (operate emits (id.id + 1) op held operand then λ v. put_member emits (id.id
+    ensures refines { Evaluates state.old (operate emits (id.id + 1) op held operand then λ v. put_member emits (id.id
         + 2) strict base name v then λ _. give v) result state.new }
-    ensures falls { RankAtMost state.old 110 result state.new }
+    ensures bounded { RankAtMost state.old 110 result state.new }
 {
     state.push_value(ValueFrame::PutMember {
         emits: true,
@@ -150,8 +150,8 @@ pub fn step_compute_pending<'p>(
     here: Here,
     v: Value,
 ) -> Result<Act<'p>, NoMemory>
-    ensures leads { Resumes state.old (ValueFrame.ComputePending id op base name args.entry here) v result state.new }
-    ensures falls { RankAtMost state.old 138 result state.new }
+    ensures refines { Resumes state.old (ValueFrame.ComputePending id op base name args.entry here) v result state.new }
+    ensures bounded { RankAtMost state.old 138 result state.new }
 {
     let pending = Pending::Assign {
         id,
@@ -172,8 +172,8 @@ pub fn step_method_pending<'p>(
     here: Here,
     v: Value,
 ) -> Result<Act<'p>, NoMemory>
-    ensures leads { Resumes state.old (ValueFrame.MethodPending id base args.entry here) v result state.new }
-    ensures falls { RankAtMost state.old 138 result state.new }
+    ensures refines { Resumes state.old (ValueFrame.MethodPending id base args.entry here) v result state.new }
+    ensures bounded { RankAtMost state.old 138 result state.new }
 {
     let pending = Pending::Call {
         id: id.call_after_get(),

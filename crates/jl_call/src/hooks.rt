@@ -15,7 +15,7 @@ use jl_ast::BinOp;
 use jl_member::delete_member;
 use jl_op::Op;
 use jl_operator::{emit, operate};
-use jl_state::{Act, Here, Hook, HookId, KeyFor, Noted, State};
+use jl_state::{Act, Here, Hook, HookId, MemberUse, Noted, State};
 use jl_text::{List, NoMemory};
 use jl_value::Value;
 
@@ -28,9 +28,9 @@ pub(crate) fn enter_hook<'p>(
     values: &List<Value>,
     here: Here,
 ) -> Result<Act<'p>, NoMemory>
-    ensures leads { Evaluates state.old (enter_hook (context_of state.old.calls here) id.id (hook_of hook)
+    ensures refines { Evaluates state.old (enter_hook (context_of state.old.calls here) id.id (hook_of hook)
         values.now) result state.new }
-    ensures falls { RankAtMost state.old 150 result state.new }
+    ensures bounded { RankAtMost state.old 150 result state.new }
 {
     let alloc = state.alloc();
     match hook {
@@ -62,9 +62,9 @@ fn enter_binary<'p>(
     op: BinOp,
     values: &List<Value>,
 ) -> Result<Act<'p>, NoMemory>
-    ensures leads { Evaluates state.old (operate emits id.id op (first_of values.now) (second_of values.now)) result
+    ensures refines { Evaluates state.old (operate emits id.id op (first_of values.now) (second_of values.now)) result
         state.new }
-    ensures falls { RankAtMost state.old 46 result state.new }
+    ensures bounded { RankAtMost state.old 46 result state.new }
 {
     let alloc = state.alloc();
     let left = first_of(alloc, values)?;
@@ -78,14 +78,14 @@ fn enter_get<'p>(
     id: HookId,
     values: &List<Value>,
 ) -> Result<Act<'p>, NoMemory>
-    ensures leads { Evaluates state.old (lift (member_name (first_of values.now) (second_of values.now)) then λ x.
+    ensures refines { Evaluates state.old (lift (member_name (first_of values.now) (second_of values.now)) then λ x.
         get_member emits id.id (first_of values.now) x) result state.new }
-    ensures falls { RankAtMost state.old 36 result state.new }
+    ensures bounded { RankAtMost state.old 36 result state.new }
 {
     let alloc = state.alloc();
     let base = first_of(alloc, values)?;
     let noted = Noted { emits: true, id };
-    name_member(state, values, KeyFor::Get { noted, base })
+    name_member(state, values, MemberUse::Get { noted, base })
 }
 
 /// A hook of a member that is deleted (11.4.1).
@@ -95,9 +95,9 @@ fn enter_delete<'p>(
     strict: bool,
     values: &List<Value>,
 ) -> Result<Act<'p>, NoMemory>
-    ensures leads { Evaluates state.old (delete_member emits id.id strict (first_of values.now) (second_of
+    ensures refines { Evaluates state.old (delete_member emits id.id strict (first_of values.now) (second_of
         values.now)) result state.new }
-    ensures falls { RankAtMost state.old 30 result state.new }
+    ensures bounded { RankAtMost state.old 30 result state.new }
 {
     let alloc = state.alloc();
     let base = first_of(alloc, values)?;

@@ -9,7 +9,7 @@ use crate::targets::{function_of, no_function, seen_values, target_of};
 use jl_algorithm::throw_native;
 use jl_op::Op;
 use jl_operator::emit_for;
-use jl_state::{Act, CallId, Invocation, State, ToldFrame};
+use jl_state::{Act, CallId, EmitFrame, Invocation, State};
 use jl_text::{List, NoMemory};
 use jl_value::{ErrorKind, Value};
 
@@ -24,9 +24,9 @@ pub fn invoke<'p>(
     args: List<Value>,
     by_new: bool,
 ) -> Result<Act<'p>, NoMemory>
-    ensures leads { Evaluates state.old (invoke (table_of state.old.functions) (noting emits) id.pre callee this
+    ensures refines { Evaluates state.old (invoke (table_of state.old.functions) (noting emits) id.pre callee this
         args by_new) result state.new }
-    ensures falls { RankAtMost state.old 20 result state.new }
+    ensures bounded { RankAtMost state.old 20 result state.new }
 {
     match function_of(&state.store, &callee, by_new) {
         Some(callee) => {
@@ -49,9 +49,9 @@ fn invoke_function<'p>(
     id: CallId,
     call: Invocation,
 ) -> Result<Act<'p>, NoMemory>
-    ensures leads { Evaluates state.old (invoke_function (table_of state.old.functions) (noting emits) id.pre
+    ensures refines { Evaluates state.old (invoke_function (table_of state.old.functions) (noting emits) id.pre
         (call_of call)) result state.new }
-    ensures falls { RankAtMost state.old 20 result state.new }
+    ensures bounded { RankAtMost state.old 20 result state.new }
 {
     let alloc = state.alloc();
     if emits {
@@ -63,9 +63,9 @@ fn invoke_function<'p>(
 
 /// The observer is told of a call that a hook makes, and then it is made.
 fn tell_call<'p>(state: &mut State<'p>, id: CallId, call: Invocation) -> Result<Act<'p>, NoMemory>
-    ensures leads { Evaluates state.old (invoke_function (table_of state.old.functions) emits id.pre (call_of call))
+    ensures refines { Evaluates state.old (invoke_function (table_of state.old.functions) emits id.pre (call_of call))
         result state.new }
-    ensures falls { RankAtMost state.old 14 result state.new }
+    ensures bounded { RankAtMost state.old 14 result state.new }
 {
     let alloc = state.alloc();
     let told = Op::InvokePre {
@@ -75,5 +75,5 @@ fn tell_call<'p>(state: &mut State<'p>, id: CallId, call: Invocation) -> Result<
         args: seen_values(alloc, &state.store, &call.args)?,
         by_new: call.by_new,
     };
-    emit_for(state, id.pre(), told, ToldFrame::Invoke { id, call })
+    emit_for(state, id.pre(), told, EmitFrame::Invoke { id, call })
 }

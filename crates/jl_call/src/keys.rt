@@ -13,18 +13,18 @@ use crate::values::{first_of, second_of};
 use jl_ast::{BinOp, Expr};
 use jl_member::{assign_by_key, delete_by_key, get_by_key, get_member, member_name, update_by_key};
 use jl_operator::text_of;
-use jl_state::{Act, Here, HookId, KeyFor, Noted, Pending, State, ValueFrame};
+use jl_state::{Act, Here, HookId, MemberUse, Noted, Pending, State, ValueFrame};
 use jl_text::{List, NoMemory, Text};
 use jl_value::{Value, share};
 
 /// The key of a member is a primitive value (9.8).
 pub fn step_key<'p>(
     state: &mut State<'p>,
-    purpose: KeyFor<'p>,
+    purpose: MemberUse<'p>,
     v: Value,
 ) -> Result<Act<'p>, NoMemory>
-    ensures leads { Resumes state.old (ValueFrame.Key purpose.entry) v result state.new }
-    ensures falls { RankAtMost state.old (rank_key purpose.entry + 2) result state.new }
+    ensures refines { Resumes state.old (ValueFrame.Key purpose.entry) v result state.new }
+    ensures bounded { RankAtMost state.old (rank_key purpose.entry + 2) result state.new }
 {
     let alloc = state.alloc();
     let name = text_of(alloc, &v)?;
@@ -32,45 +32,49 @@ pub fn step_key<'p>(
 }
 
 /// Something is done with the name of a member.
-fn use_name<'p>(state: &mut State<'p>, purpose: KeyFor<'p>, name: Text) -> Result<Act<'p>, NoMemory>
-    ensures leads { Uses state.old purpose.entry name result state.new }
-    ensures falls { RankAtMost state.old (rank_key purpose.entry + 2) result state.new }
+fn use_name<'p>(
+    state: &mut State<'p>,
+    purpose: MemberUse<'p>,
+    name: Text,
+) -> Result<Act<'p>, NoMemory>
+    ensures refines { Uses state.old purpose.entry name result state.new }
+    ensures bounded { RankAtMost state.old (rank_key purpose.entry + 2) result state.new }
 {
     match purpose {
-        KeyFor::Get { noted, base } => get_by_key(state, noted, base, name),
-        KeyFor::Call { base, args, here } => { call_by_key(state, base, args, here, name) }
-        KeyFor::Assign {
+        MemberUse::Get { noted, base } => get_by_key(state, noted, base, name),
+        MemberUse::Call { base, args, here } => { call_by_key(state, base, args, here, name) }
+        MemberUse::Assign {
             base,
             op,
             value,
             here,
         } => assign_by_key(state, base, op, value, here, name),
-        KeyFor::Delete {
+        MemberUse::Delete {
             noted,
             base,
             strict,
         } => delete_by_key(state, noted, base, strict, name),
-        KeyFor::Update {
+        MemberUse::Update {
             noted,
             base,
             up,
             prefix,
             strict,
         } => update_by_key(state, noted, base, up, prefix, strict, name),
-        KeyFor::Put {
+        MemberUse::Put {
             id,
             base,
             args,
             here,
         } => start_closing(state, Pending::Put { id, base, name }, args, here),
-        KeyFor::Compute {
+        MemberUse::Compute {
             id,
             op,
             base,
             args,
             here,
         } => compute_by_key(state, id, op, base, args, here, name),
-        KeyFor::Method {
+        MemberUse::Method {
             id,
             base,
             args,
@@ -87,8 +91,8 @@ pub(crate) fn call_by_key<'p>(
     here: Here,
     name: Text,
 ) -> Result<Act<'p>, NoMemory>
-    ensures leads { Uses state.old (KeyFor.Call base args.entry here) name result state.new }
-    ensures falls { RankAtMost state.old 160 result state.new }
+    ensures refines { Uses state.old (MemberUse.Call base args.entry here) name result state.new }
+    ensures bounded { RankAtMost state.old 160 result state.new }
 {
     let alloc = state.alloc();
     let object = share(alloc, &base)?;
@@ -115,8 +119,8 @@ fn compute_by_key<'p>(
     here: Here,
     name: Text,
 ) -> Result<Act<'p>, NoMemory>
-    ensures leads { Uses state.old (KeyFor.Compute id op base args.entry here) name result state.new }
-    ensures falls { RankAtMost state.old 160 result state.new }
+    ensures refines { Uses state.old (MemberUse.Compute id op base args.entry here) name result state.new }
+    ensures bounded { RankAtMost state.old 160 result state.new }
 {
     let alloc = state.alloc();
     let object = share(alloc, &base)?;
@@ -141,8 +145,8 @@ fn method_by_key<'p>(
     here: Here,
     name: Text,
 ) -> Result<Act<'p>, NoMemory>
-    ensures leads { Uses state.old (KeyFor.Method id base args.entry here) name result state.new }
-    ensures falls { RankAtMost state.old 160 result state.new }
+    ensures refines { Uses state.old (MemberUse.Method id base args.entry here) name result state.new }
+    ensures bounded { RankAtMost state.old 160 result state.new }
 {
     let alloc = state.alloc();
     let object = share(alloc, &base)?;
@@ -159,11 +163,11 @@ fn method_by_key<'p>(
 pub(crate) fn name_member<'p>(
     state: &mut State<'p>,
     values: &List<Value>,
-    purpose: KeyFor<'p>,
+    purpose: MemberUse<'p>,
 ) -> Result<Act<'p>, NoMemory>
-    ensures leads { Evaluates state.old (lift (member_name (first_of values.now) (second_of values.now)) then
+    ensures refines { Evaluates state.old (lift (member_name (first_of values.now) (second_of values.now)) then
         key_after (table_of state.old.functions) state.old.calls purpose.entry) result state.new }
-    ensures falls { RankAtMost state.old (rank_key purpose.entry + 20) result state.new }
+    ensures bounded { RankAtMost state.old (rank_key purpose.entry + 20) result state.new }
 {
     let alloc = state.alloc();
     let base = first_of(alloc, values)?;

@@ -23,5 +23,5 @@ pub use callees::{
 pub use closing::{step_compute_pending, step_method_pending};
 pub use invoking::invoke;
 pub use keys::step_key;
-pub use telling::step_told;
+pub use telling::resume_emit;
 pub use updating::step_update_operand_primitive;

@@ -59,8 +59,8 @@ pub(crate) fn emit_value<'p>(
     note: ValueNote,
     values: &List<Value>,
 ) -> Result<Act<'p>, NoMemory>
-    ensures leads { Evaluates state.old (emit_of id.id (op_of note) (first_of values.now)) result state.new }
-    ensures falls { RankAtMost state.old 6 result state.new }
+    ensures refines { Evaluates state.old (emit_of id.id (op_of note) (first_of values.now)) result state.new }
+    ensures bounded { RankAtMost state.old 6 result state.new }
 {
     let alloc = state.alloc();
     let value = first_of(alloc, values)?;
@@ -71,9 +71,9 @@ pub(crate) fn emit_value<'p>(
 /// A hook emits that the call that is running was entered. Where none is, it is misused.
 #[tactic(auto, using(crate::proofs::Entries::entries))]
 pub(crate) fn emit_entry<'p>(state: &mut State<'p>, id: HookId) -> Result<Act<'p>, NoMemory>
-    ensures leads { Evaluates state.old (look then λ store. note_or_misuse emits id.id Value.Undefined (option_map
+    ensures refines { Evaluates state.old (look then λ store. note_or_misuse emits id.id Value.Undefined (option_map
         (entered_op store.heap) (running state.old.calls))) result state.new }
-    ensures falls { RankAtMost state.old 6 result state.new }
+    ensures bounded { RankAtMost state.old 6 result state.new }
 {
     match state.calls.innermost() {
         None => Ok(Act::Fault(Fault::Misuse)),
@@ -92,9 +92,9 @@ pub(crate) fn emit_entry<'p>(state: &mut State<'p>, id: HookId) -> Result<Act<'p
 /// A hook emits that the call that is running ends. Where none is, it is misused.
 #[tactic(auto, using(crate::proofs::Entries::entries))]
 pub(crate) fn emit_exit<'p>(state: &mut State<'p>, id: HookId) -> Result<Act<'p>, NoMemory>
-    ensures leads { Evaluates state.old (note_or_misuse emits id.id Value.Undefined (option_map (λ (r : Running).
+    ensures refines { Evaluates state.old (note_or_misuse emits id.id Value.Undefined (option_map (λ (r : Running).
         Op.FunctionExit r.function) (running state.old.calls))) result state.new }
-    ensures falls { RankAtMost state.old 6 result state.new }
+    ensures bounded { RankAtMost state.old 6 result state.new }
 {
     match state.calls.innermost() {
         None => Ok(Act::Fault(Fault::Misuse)),
@@ -114,8 +114,8 @@ pub(crate) fn emit_type<'p>(
     name: Text,
     v: Value,
 ) -> Result<Act<'p>, NoMemory>
-    ensures leads { Evaluates state.old (note_or_misuse emits id.id v (type_op name v)) result state.new }
-    ensures falls { RankAtMost state.old 6 result state.new }
+    ensures refines { Evaluates state.old (note_or_misuse emits id.id v (type_op name v)) result state.new }
+    ensures bounded { RankAtMost state.old 6 result state.new }
 {
     let alloc = state.alloc();
     match &v {
@@ -136,8 +136,8 @@ pub(crate) fn emit_literal<'p>(
     id: HookId,
     v: Value,
 ) -> Result<Act<'p>, NoMemory>
-    ensures leads { Evaluates state.old (literal emits id.id v) result state.new }
-    ensures falls { RankAtMost state.old 6 result state.new }
+    ensures refines { Evaluates state.old (literal emits id.id v) result state.new }
+    ensures bounded { RankAtMost state.old 6 result state.new }
 {
     match literal_op(&state.store, &v)? {
         Some(told) => emit(state, id.first(), told, v),

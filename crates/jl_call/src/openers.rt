@@ -13,7 +13,7 @@ use crate::closing::start_closing;
 use crate::keys::name_member;
 use crate::values::first_of;
 use jl_ast::Expr;
-use jl_state::{Act, Here, HookId, KeyFor, Opener, Pending, State};
+use jl_state::{Act, Here, HookId, MemberUse, Opener, Pending, State};
 use jl_text::{List, NoMemory};
 use jl_value::Value;
 
@@ -28,11 +28,11 @@ pub(crate) fn start_opener<'p>(
     second: &'p List<Expr>,
     here: Here,
 ) -> Result<Act<'p>, NoMemory>
-    ensures leads { Evaluates state.old (Step (enter_opener id.id (opener_of opener) values.now) then λ pending.
+    ensures refines { Evaluates state.old (Step (enter_opener id.id (opener_of opener) values.now) then λ pending.
         evaluate_all (table_of state.old.functions) 0 [] (plain_forest (view_expressions second.now)) (context_of
         state.old.calls here) then close (table_of state.old.functions) (context_of state.old.calls here) pending)
         result state.new }
-    ensures falls { RankAtMost state.old 1 result state.new }
+    ensures bounded { RankAtMost state.old 1 result state.new }
 {
     if !state.spend() {
         return Ok(Act::Spent);
@@ -49,18 +49,18 @@ fn enter_opener<'p>(
     second: &'p List<Expr>,
     here: Here,
 ) -> Result<Act<'p>, NoMemory>
-    ensures leads { Evaluates state.old (enter_opener id.id (opener_of opener) values.now then λ pending.
+    ensures refines { Evaluates state.old (enter_opener id.id (opener_of opener) values.now then λ pending.
         evaluate_all (table_of state.old.functions) 0 [] (plain_forest (view_expressions second.now)) (context_of
         state.old.calls here) then close (table_of state.old.functions) (context_of state.old.calls here) pending)
         result state.new }
-    ensures falls { RankAtMost state.old 180 result state.new }
+    ensures bounded { RankAtMost state.old 180 result state.new }
 {
     let alloc = state.alloc();
     let base = first_of(alloc, values)?;
     match opener {
         Opener::Put => {
             let args = second;
-            let purpose = KeyFor::Put {
+            let purpose = MemberUse::Put {
                 id,
                 base,
                 args,
@@ -70,7 +70,7 @@ fn enter_opener<'p>(
         }
         Opener::Assign(op) => {
             let args = second;
-            let purpose = KeyFor::Compute {
+            let purpose = MemberUse::Compute {
                 id,
                 op,
                 base,
@@ -96,7 +96,7 @@ fn enter_opener<'p>(
         }
         Opener::Method => {
             let args = second;
-            let purpose = KeyFor::Method {
+            let purpose = MemberUse::Method {
                 id,
                 base,
                 args,

@@ -5,31 +5,31 @@ ghost use Rattle.jl_meaning.specs.Parts.{give, ◌>>=◌ as ◌then◌};
 ghost use Rattle.jl_meaning.specs.Properties.{found_of, property_of_value};
 ghost use Rattle.jl_meaning.specs.forms.Members.{put_member};
 ghost use Rattle.jl_state.specs.Clauses.{Evaluates, RankAtMost};
-ghost use Rattle.jl_state.specs.Rank.{rank_told};
-ghost use Rattle.jl_state.specs.ToldFrames.{told_after};
+ghost use Rattle.jl_state.specs.Rank.{rank_emit};
+ghost use Rattle.jl_state.specs.EmitFrames.{emit_after};
 
 use jl_algorithm::put;
 use jl_op::{Found, Op, OpId};
 use jl_operator::emit_for;
-use jl_state::{Act, CallId, Invocation, State, ToldFrame, ValueFrame};
+use jl_state::{Act, CallId, EmitFrame, Invocation, State, ValueFrame};
 use jl_store::Store;
 use jl_text::{NoMemory, Text};
 use jl_value::Value;
 
 /// The observer has been told of an operation.
-pub fn step_told<'p>(state: &mut State<'p>, frame: ToldFrame) -> Result<Act<'p>, NoMemory>
-    ensures leads { Evaluates state.old (told_after frame) result state.new }
-    ensures falls { RankAtMost state.old (rank_told frame + 1) result state.new }
+pub fn resume_emit<'p>(state: &mut State<'p>, frame: EmitFrame) -> Result<Act<'p>, NoMemory>
+    ensures refines { Evaluates state.old (emit_after frame) result state.new }
+    ensures bounded { RankAtMost state.old (rank_emit frame + 1) result state.new }
 {
     match frame {
-        ToldFrame::Put {
+        EmitFrame::Put {
             base,
             name,
             value,
             strict,
             gives,
         } => put(state, strict, base, &name, value, gives),
-        ToldFrame::PutMember {
+        EmitFrame::PutMember {
             id,
             base,
             name,
@@ -37,14 +37,14 @@ pub fn step_told<'p>(state: &mut State<'p>, frame: ToldFrame) -> Result<Act<'p>,
             strict,
             gives,
         } => emit_put(state, id, strict, base, name, value, gives),
-        ToldFrame::Invoke { id, call } => make_call(state, id, call),
+        EmitFrame::Invoke { id, call } => make_call(state, id, call),
     }
 }
 
 /// A call is made that a hook has emitted, and what it gives is to be emitted.
 fn make_call<'p>(state: &mut State<'p>, id: CallId, call: Invocation) -> Result<Act<'p>, NoMemory>
-    ensures leads { Evaluates state.old (told_after (ToldFrame.Invoke id call)) result state.new }
-    ensures falls { RankAtMost state.old 8 result state.new }
+    ensures refines { Evaluates state.old (emit_after (EmitFrame.Invoke id call)) result state.new }
+    ensures bounded { RankAtMost state.old 8 result state.new }
 {
     state.push_value(ValueFrame::EmitInvoke {
         id: id.post(),
@@ -64,9 +64,9 @@ fn emit_put<'p>(
     value: Value,
     gives: Value,
 ) -> Result<Act<'p>, NoMemory>
-    ensures leads { Evaluates state.old (put_member emits id.0 strict base name value then λ _. give gives) result
+    ensures refines { Evaluates state.old (put_member emits id.0 strict base name value then λ _. give gives) result
         state.new }
-    ensures falls { RankAtMost state.old 46 result state.new }
+    ensures bounded { RankAtMost state.old 46 result state.new }
 {
     let alloc = state.alloc();
     let told = Op::PutField {
@@ -75,7 +75,7 @@ fn emit_put<'p>(
         value: state.store.seen(&value)?,
         found: found_of(&state.store, &base, &name),
     };
-    let frame = ToldFrame::Put {
+    let frame = EmitFrame::Put {
         base,
         name,
         value,

@@ -27,8 +27,8 @@ pub(crate) fn enter_unary<'p>(
     op: UnKind,
     v: Value,
 ) -> Result<Act<'p>, NoMemory>
-    ensures leads { Evaluates state.old (hooked_unary id.id op v) result state.new }
-    ensures falls { RankAtMost state.old 46 result state.new }
+    ensures refines { Evaluates state.old (hooked_unary id.id op v) result state.new }
+    ensures bounded { RankAtMost state.old 46 result state.new }
 {
     match op {
         UnKind::Up => update_value(state, id, true, v),
@@ -50,8 +50,8 @@ fn update_value<'p>(
     up: bool,
     v: Value,
 ) -> Result<Act<'p>, NoMemory>
-    ensures leads { Evaluates state.old (hooked_update id.id (update_kind up) v) result state.new }
-    ensures falls { RankAtMost state.old 30 result state.new }
+    ensures refines { Evaluates state.old (hooked_update id.id (update_kind up) v) result state.new }
+    ensures bounded { RankAtMost state.old 30 result state.new }
 {
     let alloc = state.alloc();
     let held = share(alloc, &v)?;
@@ -67,8 +67,8 @@ pub fn step_update_operand_primitive<'p>(
     held: Value,
     v: Value,
 ) -> Result<Act<'p>, NoMemory>
-    ensures leads { Resumes state.old (ValueFrame.UpdateOperandPrimitive id up held) v result state.new }
-    ensures falls { RankAtMost state.old 12 result state.new }
+    ensures refines { Resumes state.old (ValueFrame.UpdateOperandPrimitive id up held) v result state.new }
+    ensures bounded { RankAtMost state.old 12 result state.new }
 {
     match number_of(&v) {
         Ok(n) => emit_next(state, id, update_kind(up), held, n),
@@ -84,9 +84,9 @@ fn emit_next<'p>(
     held: Value,
     n: Num,
 ) -> Result<Act<'p>, NoMemory>
-    ensures leads { Evaluates state.old (lift (give_next op n) then λ w. note emits id.id (λ heap. Op.Unary op
+    ensures refines { Evaluates state.old (lift (give_next op n) then λ w. note emits id.id (λ heap. Op.Unary op
         (seen_of heap held) (seen_of heap w)) then λ _. give w) result state.new }
-    ensures falls { RankAtMost state.old 12 result state.new }
+    ensures bounded { RankAtMost state.old 12 result state.new }
 {
     match next_number(op, n) {
         Ok(next) => emit_unary(state, id, op, held, Value::Num(next)),
@@ -102,9 +102,9 @@ fn emit_unary<'p>(
     operand: Value,
     v: Value,
 ) -> Result<Act<'p>, NoMemory>
-    ensures leads { Evaluates state.old (note emits id.id (λ heap. Op.Unary op (seen_of heap operand) (seen_of heap
+    ensures refines { Evaluates state.old (note emits id.id (λ heap. Op.Unary op (seen_of heap operand) (seen_of heap
         v)) then λ _. give v) result state.new }
-    ensures falls { RankAtMost state.old 6 result state.new }
+    ensures bounded { RankAtMost state.old 6 result state.new }
 {
     step_emit_unary(state, id.first(), op, operand, v)
 }
@@ -117,9 +117,9 @@ pub(crate) fn enter_update<'p>(
     up: bool,
     values: &List<Value>,
 ) -> Result<Act<'p>, NoMemory>
-    ensures leads { Evaluates state.old (update_member emits id.id strict (update_kind up) (first_of values.now)
+    ensures refines { Evaluates state.old (update_member emits id.id strict (update_kind up) (first_of values.now)
         (second_of values.now) then λ r. give r.1) result state.new }
-    ensures falls { RankAtMost state.old 146 result state.new }
+    ensures bounded { RankAtMost state.old 146 result state.new }
 {
     let alloc = state.alloc();
     let noted = Noted { emits: true, id };

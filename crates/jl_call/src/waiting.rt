@@ -18,12 +18,12 @@ pub(crate) fn evaluate_argument<'p>(
     arguments: Arguments<'p>,
     e: &'p Expr,
 ) -> Result<Act<'p>, NoMemory>
-    ensures leads { Evaluates state.old (evaluate (table_of state.old.functions) (plain (view_expression e.now))
+    ensures refines { Evaluates state.old (evaluate (table_of state.old.functions) (plain (view_expression e.now))
         (context_of state.old.calls arguments.entry.here) then λ v. evaluate_all (table_of state.old.functions) 0
         (arguments.entry.so_far ++ v ∷ []) (plain_forest (view_expressions (items_left arguments.entry.rest)))
         (context_of state.old.calls arguments.entry.here) then arguments_after (table_of state.old.functions)
         state.old.calls arguments.entry.purpose arguments.entry.here) result state.new }
-    ensures falls { RankAtMost state.old 134 result state.new }
+    ensures bounded { RankAtMost state.old 134 result state.new }
 {
     let here = arguments.here;
     let waiting = Boxed::of(state.alloc(), arguments)?;

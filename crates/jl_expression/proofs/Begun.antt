@@ -13,7 +13,7 @@ use Rattle.jl_meaning.specs.FunctionObjects.{FunctionTable}
 use Rattle.jl_meaning.specs.Noting.{performs}
 use Rattle.jl_meaning.specs.Parts.{◌>>=◌, Answer, Context, Expr, Part}
 use Rattle.jl_meaning.specs.forms.Operators.{operate_on}
-use Rattle.jl_state.specs.Rest.{Gives}
+use Rattle.jl_state.specs.Rest.{RefinesExpression}
 use Rattle.jl_state.specs.Steps.{RanOut, Took}
 use Rattle.jl_state.specs.Words.{context_of, table_of}
 use Rattle.jl_state.specs.declared.act.Act.{Act}
@@ -35,20 +35,21 @@ stepped table (tree.unary un.Delete e s) c = refl
 stepped table e c = refl
 
 pub begins : (s t u : State) (a : Act) (e : Expr) (here : Here) → Took s t → t ≡ record s { left = s.left - 1 }
-    → Gives t (begin (table_of t.functions) e (context_of t.calls here)) u a
-    → Gives s (evaluate (table_of s.functions) e (context_of s.calls here)) u a
-begins s t u a e here took is leads =
+    → RefinesExpression t (begin (table_of t.functions) e (context_of t.calls here)) u a
+    → RefinesExpression s (evaluate (table_of s.functions) e (context_of s.calls here)) u a
+begins s t u a e here took is refines =
     let same : begin (table_of t.functions) e (context_of t.calls here)
     ≡ begin (table_of s.functions) e (context_of s.calls here) =
     ap (λ (v : State). begin (table_of v.functions) e (context_of v.calls here)) is in
-    subst (λ p. Gives s p u a) (sym (stepped (table_of s.functions) e (context_of s.calls here)))
-    (took.gives _ u a (subst (λ p. Gives t p u a) same leads))
+    subst (λ p. RefinesExpression s p u a) (sym (stepped (table_of s.functions) e (context_of s.calls here)))
+    (took.gives _ u a (subst (λ p. RefinesExpression t p u a) same refines))
 
 pub runs_out : (s t : State) (e : Expr) (here : Here) → RanOut s → t ≡ s
-    → Gives s (evaluate (table_of s.functions) e (context_of s.calls here)) t act.Spent
+    → RefinesExpression s (evaluate (table_of s.functions) e (context_of s.calls here)) t act.Spent
 runs_out s t e here ran_out same =
-    subst (λ (u : State). Gives s (evaluate (table_of s.functions) e (context_of s.calls here)) u act.Spent) (sym same)
-    (subst (λ p. Gives s p s act.Spent) (sym (stepped (table_of s.functions) e (context_of s.calls here)))
+    subst (λ (u : State). RefinesExpression s (evaluate (table_of s.functions) e (context_of s.calls here)) u act.Spent)
+    (sym same)
+    (subst (λ p. RefinesExpression s p s act.Spent) (sym (stepped (table_of s.functions) e (context_of s.calls here)))
     (ran_out.gives (begin (table_of s.functions) e (context_of s.calls here))))
 
 -- an operator that is neither `typeof` nor `delete` is one on the value of its operand
@@ -65,14 +66,14 @@ operand_first table un.Delete e c no_type no_delete = absurd (no_delete refl)
 
 -- `typeof` of what is no name
 pub types_value : (s : State) (here : Here) (e : Expr) (t : State) (a : Act) → is_name e ≡ false
-    → Gives s (evaluate (table_of s.functions) e (context_of s.calls here)
+    → RefinesExpression s (evaluate (table_of s.functions) e (context_of s.calls here)
     >>= λ v. operate_on performs 0 unary.Typeof v) t a
-    → Gives s (evaluate_typeof (table_of s.functions) e
+    → RefinesExpression s (evaluate_typeof (table_of s.functions) e
     (evaluate (table_of s.functions) e (context_of s.calls here)) 0 (context_of s.calls here)) t a
-types_value s here e t a is leads =
-    subst (λ p. Gives s p t a)
+types_value s here e t a is refines =
+    subst (λ p. RefinesExpression s p t a)
     (typed (table_of s.functions) e (evaluate (table_of s.functions) e (context_of s.calls here))
-    (context_of s.calls here) is) leads
+    (context_of s.calls here) is) refines
   where
     typed : (table : FunctionTable) (f : Expr) (p : Part (Answer Value)) (c : Context) → is_name f ≡ false
         → (p >>= λ v. operate_on performs 0 unary.Typeof v) ≡ evaluate_typeof table f p 0 c

@@ -29,6 +29,6 @@ pub goes_on : {E : Type 0} {o : Option Value} {v : Value} (s t : State) (e : Exp
     (r : Result Act E) (u : State) → Resumes t f v r u
     → Evaluates s (evaluate (table_of s.functions) (plain (view_expression e)) (context_of s.calls here)
     >>= value_after (table_of s.functions) s.calls f) r u
-goes_on {E} {o} {v} s t e here at_once is took one f r u leads =
+goes_on {E} {o} {v} s t e here at_once is took one f r u refines =
     resumes_supplied s t one (evaluate (table_of s.functions) (plain (view_expression e)) (context_of s.calls here)) v
-    (MatchOption-at_some _ (IsAtOnce s e here) v is at_once t took one) f r u leads
+    (MatchOption-at_some _ (IsAtOnce s e here) v is at_once t took one) f r u refines

@@ -15,7 +15,7 @@ use Rattle.jl_meaning.specs.Parts as parts
 use Rattle.jl_meaning.specs.Parts.{◌>>=◌, Answer, Part}
 use Rattle.jl_meaning.specs.forms.Members.{update_expression}
 use Rattle.jl_meaning.specs.forms.Names.{assign_name}
-use Rattle.jl_state.specs.Rest.{Gives}
+use Rattle.jl_state.specs.Rest.{RefinesExpression}
 use Rattle.jl_state.specs.Trees.{plain}
 use Rattle.jl_state.specs.Words.{context_of, table_of}
 use Rattle.jl_state.specs.declared.act.Act.{Act}
@@ -26,12 +26,13 @@ use Rattle.jl_expression.proofs.ByKind.{of_target}
 
 module _ (s : State) (here : Here) (w : Target) (t : State) (a : Act) where
   pub update_of : (up prefix : Bool) (v : Target) (x : Tree Span tree.target) → w ≡ v → view_target v ≡ x
-      → Gives s (evaluate_update (table_of s.functions) (plain x) up prefix 0 (context_of s.calls here)) t a
-      → Gives s (evaluate_update (table_of s.functions) (plain (view_target w)) up prefix 0 (context_of s.calls here))
+      → RefinesExpression s (evaluate_update (table_of s.functions) (plain x) up prefix 0 (context_of s.calls here)) t a
+      → RefinesExpression s (evaluate_update (table_of s.functions) (plain (view_target w)) up prefix 0
+      (context_of s.calls here))
       t a
-  update_of up prefix v x is seen leads =
+  update_of up prefix v x is seen refines =
       of_target (λ (y : Tree ℕ tree.target). evaluate_update (table_of s.functions) y up prefix 0
-      (context_of s.calls here)) s w v x t a is seen leads
+      (context_of s.calls here)) s w v x t a is seen refines
 
   module _ (o : Option BinOp) (d : Expr) where
     abbrev assigns : Tree ℕ tree.target → Part (Answer Value)
@@ -41,17 +42,18 @@ module _ (s : State) (here : Here) (w : Target) (t : State) (a : Act) where
         (context_of s.calls here)
 
     pub assignment_of : (v : Target) (x : Tree Span tree.target) → w ≡ v → view_target v ≡ x
-        → Gives s (assigns (plain x)) t a → Gives s (assigns (plain (view_target w))) t a
-    assignment_of v x is seen leads = of_target assigns s w v x t a is seen leads
+        → RefinesExpression s (assigns (plain x)) t a → RefinesExpression s (assigns (plain (view_target w))) t a
+    assignment_of v x is seen refines = of_target assigns s w v x t a is seen refines
 
 -- an update of a member asks the context for nothing but whether it is strict
 pub updates_dot : (s : State) (here : Here) (o : parts.Expr) (k : Name) (up prefix : Bool) (t : State) (a : Act)
-    → Gives s (evaluate (table_of s.functions) o (context_of s.calls here)
+    → RefinesExpression s (evaluate (table_of s.functions) o (context_of s.calls here)
     >>= λ base. update_expression 0 (context_of s.calls (record { env = 0; strict = here.strict })) base (value.Text k)
     up prefix) t a
-    → Gives s (evaluate_update (table_of s.functions) (tree.to_dot o k 0) up prefix 0 (context_of s.calls here)) t a
+    → RefinesExpression s (evaluate_update (table_of s.functions) (tree.to_dot o k 0) up prefix 0
+    (context_of s.calls here)) t a
 unfolding update_expression
-updates_dot s here o k up prefix t a leads = leads
+updates_dot s here o k up prefix t a refines = refines
 
 -- a name is assigned a value
 module _ (s : State) (here : Here) (o : Option BinOp) (x : Name) (d : Expr) (t : State) (a : Act) where
@@ -61,9 +63,9 @@ module _ (s : State) (here : Here) (o : Option BinOp) (x : Name) (d : Expr) (t :
       (evaluate (table_of s.functions) (plain (view_expression b)) (context_of s.calls here))
 
   pub assigns_value : (b : Expr) → o ≡ None → b ≡ d
-      → Gives s (assign_name 0 (context_of s.calls here) x
+      → RefinesExpression s (assign_name 0 (context_of s.calls here) x
       (evaluate (table_of s.functions) (plain (view_expression b)) (context_of s.calls here))) t a
-      → Gives s (assigned_to d o) t a
-  assigns_value b is same leads =
-      subst (λ (p : Option BinOp). Gives s (assigned_to d p) t a) (sym is)
-      (subst (λ (e : Expr). Gives s (assigned_to e None) t a) same leads)
+      → RefinesExpression s (assigned_to d o) t a
+  assigns_value b is same refines =
+      subst (λ (p : Option BinOp). RefinesExpression s (assigned_to d p) t a) (sym is)
+      (subst (λ (e : Expr). RefinesExpression s (assigned_to e None) t a) same refines)

@@ -32,9 +32,9 @@ pub fn begin_expression<'p>(
     e: &'p Expr,
     here: Here,
 ) -> Result<Act<'p>, NoMemory>
-    ensures leads { Evaluates state.old (evaluate (table_of state.old.functions) (plain (view_expression e.now))
+    ensures refines { Evaluates state.old (evaluate (table_of state.old.functions) (plain (view_expression e.now))
         (context_of state.old.calls here)) result state.new }
-    ensures falls { RankAtMost state.old 1 result state.new }
+    ensures bounded { RankAtMost state.old 1 result state.new }
 {
     if !state.spend() {
         return Ok(Act::Spent);
@@ -45,7 +45,7 @@ pub fn begin_expression<'p>(
 /// What an expression does after the step that begins it.
 #[tactic(auto, using(jl_ast::proofs::Views::nodes))]
 fn begin<'p>(state: &mut State<'p>, e: &'p Expr, here: Here) -> Result<Act<'p>, NoMemory>
-    ensures leads { Evaluates state.old (begin (table_of state.old.functions) (plain (view_expression e.now))
+    ensures refines { Evaluates state.old (begin (table_of state.old.functions) (plain (view_expression e.now))
         (context_of state.old.calls here)) result state.new }
     ensures left { IfOk result (λ _. state.new.left ≤ state.old.left) }
 {
@@ -106,7 +106,7 @@ fn begin_unary<'p>(
     operand: &'p Expr,
     here: Here,
 ) -> Result<Act<'p>, NoMemory>
-    ensures leads { Evaluates state.old (begin (table_of state.old.functions) (tree.unary op (plain (view_expression
+    ensures refines { Evaluates state.old (begin (table_of state.old.functions) (tree.unary op (plain (view_expression
         operand.now)) 0) (context_of state.old.calls here)) result state.new }
     ensures left { IfOk result (λ _. state.new.left ≤ state.old.left) }
 {
@@ -127,7 +127,7 @@ fn begin_typeof<'p>(
     operand: &'p Expr,
     here: Here,
 ) -> Result<Act<'p>, NoMemory>
-    ensures leads { Evaluates state.old (evaluate_typeof (table_of state.old.functions) (plain (view_expression
+    ensures refines { Evaluates state.old (evaluate_typeof (table_of state.old.functions) (plain (view_expression
         operand.now)) (evaluate (table_of state.old.functions) (plain (view_expression operand.now)) (context_of
         state.old.calls here)) 0 (context_of state.old.calls here)) result state.new }
     ensures left { IfOk result (λ _. state.new.left ≤ state.old.left) }
@@ -148,7 +148,7 @@ fn begin_delete<'p>(
     operand: &'p Expr,
     here: Here,
 ) -> Result<Act<'p>, NoMemory>
-    ensures leads { Evaluates state.old (evaluate_delete (table_of state.old.functions) (plain (view_expression
+    ensures refines { Evaluates state.old (evaluate_delete (table_of state.old.functions) (plain (view_expression
         operand.now)) (evaluate (table_of state.old.functions) (plain (view_expression operand.now)) (context_of
         state.old.calls here)) 0 (context_of state.old.calls here)) result state.new }
     ensures left { IfOk result (λ _. state.new.left ≤ state.old.left) }
@@ -185,7 +185,7 @@ fn begin_update<'p>(
     target: &'p Target,
     here: Here,
 ) -> Result<Act<'p>, NoMemory>
-    ensures leads { Evaluates state.old (evaluate_update (table_of state.old.functions) (plain (view_target
+    ensures refines { Evaluates state.old (evaluate_update (table_of state.old.functions) (plain (view_target
         target.now)) up prefix 0 (context_of state.old.calls here)) result state.new }
     ensures left { IfOk result (λ _. state.new.left ≤ state.old.left) }
 {
@@ -221,7 +221,7 @@ fn begin_assignment<'p>(
     value: &'p Box<Expr>,
     here: Here,
 ) -> Result<Act<'p>, NoMemory>
-    ensures leads { Evaluates state.old (evaluate_assignment (table_of state.old.functions) (plain (view_target
+    ensures refines { Evaluates state.old (evaluate_assignment (table_of state.old.functions) (plain (view_target
         target.now)) op (evaluate (table_of state.old.functions) (plain (view_expression value.now.value))
         (context_of state.old.calls here)) 0 (context_of state.old.calls here)) result state.new }
     ensures left { IfOk result (λ _. state.new.left ≤ state.old.left) }
@@ -241,7 +241,7 @@ fn assign_to_name<'p>(
     value: &'p Box<Expr>,
     here: Here,
 ) -> Result<Act<'p>, NoMemory>
-    ensures leads { Evaluates state.old (assigned_name op (context_of state.old.calls here) name.now (evaluate
+    ensures refines { Evaluates state.old (assigned_name op (context_of state.old.calls here) name.now (evaluate
         (table_of state.old.functions) (plain (view_expression value.now.value)) (context_of state.old.calls here)))
         result state.new }
     ensures left { IfOk result (λ _. state.new.left ≤ state.old.left) }

@@ -19,7 +19,7 @@ pub(crate) fn evaluate_boxed<'p>(
     e: &'p Box<Expr>,
     here: Here,
 ) -> Result<Act<'p>, NoMemory>
-    ensures leads { Evaluates state.old (evaluate (table_of state.old.functions) (plain (view_expression
+    ensures refines { Evaluates state.old (evaluate (table_of state.old.functions) (plain (view_expression
         e.now.value)) (context_of state.old.calls here) then value_after (table_of state.old.functions)
         state.old.calls frame.entry) result state.new }
     ensures left { IfOk result (λ _. state.new.left ≤ state.old.left) }

@@ -24,7 +24,7 @@ use jl_hook::{
     CalleeForm, HookCall, OpenerCall, OpenerShape, form_of, form_of_member, hook_call, opener_call,
     takes_arguments,
 };
-use jl_state::{Act, ArgumentsFor, Here, State, ValueFrame};
+use jl_state::{Act, ArgumentUse, Here, State, ValueFrame};
 use jl_text::{List, NoMemory, Text};
 use jl_value::Fault;
 
@@ -35,7 +35,7 @@ pub(crate) fn begin_call<'p>(
     args: &'p List<Expr>,
     here: Here,
 ) -> Result<Act<'p>, NoMemory>
-    ensures leads { Evaluates state.old (call_expression (table_of state.old.functions) (plain (view_expression
+    ensures refines { Evaluates state.old (call_expression (table_of state.old.functions) (plain (view_expression
         callee.now)) (plain_forest (view_expressions args.now)) (context_of state.old.calls here)) result state.new }
     ensures left { IfOk result (λ _. state.new.left ≤ state.old.left) }
 {
@@ -57,7 +57,7 @@ pub(crate) fn begin_new<'p>(
     args: &'p List<Expr>,
     here: Here,
 ) -> Result<Act<'p>, NoMemory>
-    ensures leads { Evaluates state.old (evaluate (table_of state.old.functions) (plain (view_expression
+    ensures refines { Evaluates state.old (evaluate (table_of state.old.functions) (plain (view_expression
         constructor.now.value)) (context_of state.old.calls here) then λ f. arguments (table_of state.old.functions)
         (plain_forest (view_expressions args.now)) (context_of state.old.calls here) 0 then λ vs. invoke (table_of
         state.old.functions) performs 0 f value.Undefined vs true) result state.new }
@@ -73,7 +73,7 @@ fn call_value<'p>(
     args: &'p List<Expr>,
     here: Here,
 ) -> Result<Act<'p>, NoMemory>
-    ensures leads { Evaluates state.old (call_value (table_of state.old.functions) 0 (evaluate (table_of
+    ensures refines { Evaluates state.old (call_value (table_of state.old.functions) 0 (evaluate (table_of
         state.old.functions) (plain (view_expression callee.now)) (context_of state.old.calls here)) (arguments
         (table_of state.old.functions) (plain_forest (view_expressions args.now)) (context_of state.old.calls here)
         0)) result state.new }
@@ -90,7 +90,7 @@ fn call_member<'p>(
     args: &'p List<Expr>,
     here: Here,
 ) -> Result<Act<'p>, NoMemory>
-    ensures leads { Evaluates state.old (call_expression (table_of state.old.functions) (tree.dot (plain
+    ensures refines { Evaluates state.old (call_expression (table_of state.old.functions) (tree.dot (plain
         (view_expression object.now.value)) key.now 0) (plain_forest (view_expressions args.now)) (context_of
         state.old.calls here)) result state.new }
     ensures left { IfOk result (λ _. state.new.left ≤ state.old.left) }
@@ -108,7 +108,7 @@ fn call_by_form<'p>(
     args: &'p List<Expr>,
     here: Here,
 ) -> Result<Act<'p>, NoMemory>
-    ensures leads { Evaluates state.old (call_by_form (form_seen form) (plain_forest (view_expressions args.now))
+    ensures refines { Evaluates state.old (call_by_form (form_seen form) (plain_forest (view_expressions args.now))
         (context_of state.old.calls here) (arguments (table_of state.old.functions) (plain_forest (view_expressions
         args.now)) (context_of state.old.calls here)) (evaluate (table_of state.old.functions) (plain
         (view_expression object.now.value)) (context_of state.old.calls here) then λ base. call_member (table_of
@@ -134,7 +134,7 @@ fn call_hook<'p>(
     args: &'p List<Expr>,
     here: Here,
 ) -> Result<Act<'p>, NoMemory>
-    ensures leads { Evaluates state.old (call_hook (context_of state.old.calls here) (option_map hook_call_seen
+    ensures refines { Evaluates state.old (call_hook (context_of state.old.calls here) (option_map hook_call_seen
         call) (arguments (table_of state.old.functions) (plain_forest (view_expressions args.now)) (context_of
         state.old.calls here))) result state.new }
     ensures left { IfOk result (λ _. state.new.left ≤ state.old.left) }
@@ -142,7 +142,7 @@ fn call_hook<'p>(
     match call {
         None => Ok(Act::Fault(Fault::Misuse)),
         Some(HookCall { id, hook, literals }) => {
-            let purpose = ArgumentsFor::Hook { id, hook };
+            let purpose = ArgumentUse::Hook { id, hook };
             start_arguments(state, purpose, args, literals, here)
         }
     }
@@ -158,7 +158,7 @@ fn call_of_call<'p>(
     args: &'p List<Expr>,
     here: Here,
 ) -> Result<Act<'p>, NoMemory>
-    ensures leads { Evaluates state.old (call_of_call (table_of state.old.functions) (context_of state.old.calls
+    ensures refines { Evaluates state.old (call_of_call (table_of state.old.functions) (context_of state.old.calls
         here) (form_of (plain (view_expression inner.now.value))) (plain_forest (view_expressions first.now))
         (arguments (table_of state.old.functions) (plain_forest (view_expressions first.now)) (context_of
         state.old.calls here)) (length args.now) (arguments (table_of state.old.functions) (plain_forest
@@ -183,7 +183,7 @@ fn call_opener<'p>(
     second: &'p List<Expr>,
     here: Here,
 ) -> Result<Act<'p>, NoMemory>
-    ensures leads { Evaluates state.old (call_opener (table_of state.old.functions) (context_of state.old.calls
+    ensures refines { Evaluates state.old (call_opener (table_of state.old.functions) (context_of state.old.calls
         here) (opener_shape shape) (plain_forest (view_expressions first.now)) (arguments (table_of
         state.old.functions) (plain_forest (view_expressions first.now)) (context_of state.old.calls here)) (length
         second.now) (arguments (table_of state.old.functions) (plain_forest (view_expressions second.now))
@@ -205,7 +205,7 @@ fn call_pair<'p>(
     second: &'p List<Expr>,
     here: Here,
 ) -> Result<Act<'p>, NoMemory>
-    ensures leads { Evaluates state.old (call_pair (table_of state.old.functions) (context_of state.old.calls here)
+    ensures refines { Evaluates state.old (call_pair (table_of state.old.functions) (context_of state.old.calls here)
         (option_map opener_call_seen call) (arguments (table_of state.old.functions) (plain_forest (view_expressions
         first.now)) (context_of state.old.calls here)) (arguments (table_of state.old.functions) (plain_forest
         (view_expressions second.now)) (context_of state.old.calls here) 0)) result state.new }
@@ -225,7 +225,7 @@ fn begin_pair<'p>(
     second: &'p List<Expr>,
     here: Here,
 ) -> Result<Act<'p>, NoMemory>
-    ensures leads { Evaluates state.old (pair_begun (table_of state.old.functions) (context_of state.old.calls here)
+    ensures refines { Evaluates state.old (pair_begun (table_of state.old.functions) (context_of state.old.calls here)
         (option_map opener_call_seen call) (arguments (table_of state.old.functions) (plain_forest (view_expressions
         first.now)) (context_of state.old.calls here)) (arguments (table_of state.old.functions) (plain_forest
         (view_expressions second.now)) (context_of state.old.calls here) 0)) result state.new }
@@ -240,7 +240,7 @@ fn begin_pair<'p>(
                 literals,
             },
         ) => {
-            let purpose = ArgumentsFor::Opener { id, opener, second };
+            let purpose = ArgumentUse::Opener { id, opener, second };
             start_arguments(state, purpose, first, literals, here)
         }
     }

@@ -39,7 +39,7 @@ pub(crate) fn begin_dot<'p>(
     key: &'p Text,
     here: Here,
 ) -> Result<Act<'p>, NoMemory>
-    ensures leads { Evaluates state.old (evaluate (table_of state.old.functions) (plain (view_expression
+    ensures refines { Evaluates state.old (evaluate (table_of state.old.functions) (plain (view_expression
         object.now.value)) (context_of state.old.calls here) then value_after (table_of state.old.functions)
         state.old.calls (ValueFrame.DotBase key.entry)) result state.new }
     ensures left { IfOk result (λ _. state.new.left ≤ state.old.left) }
@@ -59,7 +59,7 @@ pub(crate) fn begin_index<'p>(
     key: &'p Box<Expr>,
     here: Here,
 ) -> Result<Act<'p>, NoMemory>
-    ensures leads { Evaluates state.old (evaluate (table_of state.old.functions) (plain (view_expression
+    ensures refines { Evaluates state.old (evaluate (table_of state.old.functions) (plain (view_expression
         object.now.value)) (context_of state.old.calls here) then value_after (table_of state.old.functions)
         state.old.calls (ValueFrame.IndexBase key.entry here)) result state.new }
     ensures left { IfOk result (λ _. state.new.left ≤ state.old.left) }
@@ -80,7 +80,7 @@ pub(crate) fn begin_binary<'p>(
     right: &'p Box<Expr>,
     here: Here,
 ) -> Result<Act<'p>, NoMemory>
-    ensures leads { Evaluates state.old (evaluate (table_of state.old.functions) (plain (view_expression
+    ensures refines { Evaluates state.old (evaluate (table_of state.old.functions) (plain (view_expression
         left.now.value)) (context_of state.old.calls here) then value_after (table_of state.old.functions)
         state.old.calls (ValueFrame.LeftOperand op right.entry here)) result state.new }
     ensures left { IfOk result (λ _. state.new.left ≤ state.old.left) }
@@ -100,7 +100,7 @@ pub(crate) fn begin_operand<'p>(
     operand: &'p Expr,
     here: Here,
 ) -> Result<Act<'p>, NoMemory>
-    ensures leads { Evaluates state.old (evaluate (table_of state.old.functions) (plain (view_expression operand.now))
+    ensures refines { Evaluates state.old (evaluate (table_of state.old.functions) (plain (view_expression operand.now))
         (context_of state.old.calls here) then value_after (table_of state.old.functions) state.old.calls
         (ValueFrame.Operand op)) result state.new }
     ensures left { IfOk result (λ _. state.new.left ≤ state.old.left) }
@@ -122,7 +122,7 @@ pub(crate) fn assign_dot<'p>(
     value: &'p Box<Expr>,
     here: Here,
 ) -> Result<Act<'p>, NoMemory>
-    ensures leads { Evaluates state.old (evaluate (table_of state.old.functions) (plain (view_expression object.now))
+    ensures refines { Evaluates state.old (evaluate (table_of state.old.functions) (plain (view_expression object.now))
         (context_of state.old.calls here) then value_after (table_of state.old.functions) state.old.calls
         (ValueFrame.AssignDotBase key.entry op value.entry here)) result state.new }
     ensures left { IfOk result (λ _. state.new.left ≤ state.old.left) }
@@ -149,7 +149,7 @@ pub(crate) fn assign_index<'p>(
     value: &'p Box<Expr>,
     here: Here,
 ) -> Result<Act<'p>, NoMemory>
-    ensures leads { Evaluates state.old (evaluate (table_of state.old.functions) (plain (view_expression object.now))
+    ensures refines { Evaluates state.old (evaluate (table_of state.old.functions) (plain (view_expression object.now))
         (context_of state.old.calls here) then value_after (table_of state.old.functions) state.old.calls
         (ValueFrame.AssignIndexBase key.entry op value.entry here)) result state.new }
     ensures left { IfOk result (λ _. state.new.left ≤ state.old.left) }
@@ -175,7 +175,7 @@ pub(crate) fn begin_method<'p>(
     args: &'p List<Expr>,
     here: Here,
 ) -> Result<Act<'p>, NoMemory>
-    ensures leads { Evaluates state.old (evaluate (table_of state.old.functions) (plain (view_expression
+    ensures refines { Evaluates state.old (evaluate (table_of state.old.functions) (plain (view_expression
         object.now.value)) (context_of state.old.calls here) then value_after (table_of state.old.functions)
         state.old.calls (ValueFrame.CalleeDotBase key.entry args.entry here)) result state.new }
     ensures left { IfOk result (λ _. state.new.left ≤ state.old.left) }
@@ -196,7 +196,7 @@ pub(crate) fn begin_callee<'p>(
     args: &'p List<Expr>,
     here: Here,
 ) -> Result<Act<'p>, NoMemory>
-    ensures leads { Evaluates state.old (evaluate (table_of state.old.functions) (plain (view_expression callee.now))
+    ensures refines { Evaluates state.old (evaluate (table_of state.old.functions) (plain (view_expression callee.now))
         (context_of state.old.calls here) then value_after (table_of state.old.functions) state.old.calls
         (ValueFrame.Callee Value.Undefined by_new args.entry here)) result state.new }
     ensures left { IfOk result (λ _. state.new.left ≤ state.old.left) }

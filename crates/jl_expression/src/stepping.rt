@@ -32,8 +32,8 @@ pub fn step_value<'p>(
     frame: ValueFrame<'p>,
     v: Value,
 ) -> Result<Act<'p>, NoMemory>
-    ensures leads { Resumes state.old frame.entry v result state.new }
-    ensures falls { RankAtMost state.old (rank_value frame.entry + 2) result state.new }
+    ensures refines { Resumes state.old frame.entry v result state.new }
+    ensures bounded { RankAtMost state.old (rank_value frame.entry + 2) result state.new }
 {
     match frame {
         ValueFrame::Element {
@@ -52,7 +52,7 @@ pub fn step_value<'p>(
         ValueFrame::DotBase { key } => step_dot_base(state, key, v),
         ValueFrame::IndexBase { key, here } => step_index_base(state, key, here, v),
         ValueFrame::IndexKey { base } => step_index_key(state, base, v),
-        ValueFrame::Key(purpose) => step_key(state, purpose, v),
+        ValueFrame::Key(purpose) => step_key(state, purpose.into_inner(), v),
         ValueFrame::Callee {
             this,
             by_new,
@@ -230,7 +230,7 @@ pub fn step_value<'p>(
             function,
             env,
             call,
-        } => step_instance_prototype(state, function, env, call, v),
+        } => step_instance_prototype(state, function, env, call.into_inner(), v),
         ValueFrame::Constructed { object } => step_constructed(state, object, v),
     }
 }

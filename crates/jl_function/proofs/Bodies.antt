@@ -19,7 +19,8 @@ use Rattle.jl_meaning.specs.Statements.{execute_all}
 use Rattle.jl_meaning.specs.Store.{Store}
 use Rattle.jl_meaning.specs.forms.Functions.{leave_function, result_of, run_body, run_function}
 use Rattle.jl_meaning.specs.Jobs.{job}
-use Rattle.jl_state.specs.Rest.{as_completion, as_value, given_of, rest, rest_of, run_in, run_state, Completes, Gives}
+use Rattle.jl_state.specs.Rest.{as_completion, as_value, given_of, continuation, continuation_of, run_in, run_state}
+use Rattle.jl_state.specs.Rest.{RefinesStatement, RefinesExpression}
 use Rattle.jl_state.specs.Rest.{Completion-given}
 use Rattle.jl_state.specs.Trees.{plain, plain_forest}
 use Rattle.jl_state.specs.Words.{context_of, table_of}
@@ -34,23 +35,23 @@ use Rattle.jl_function.specs.inner.Entered.{body_result}
 
 -- the end of a body is what its function gives where the call was made
 body_same : (table : FunctionTable) (calls : List Call) (frames : List Frame) (call : Call) (p : Part Completion)
-    → and_then (as_completion p) (rest table (call ∷ calls) (frame.Body ∷ frames))
-    ≡ and_then (as_value (and_then p result_of)) (rest table calls frames)
+    → and_then (as_completion p) (continuation table (call ∷ calls) (frame.Body ∷ frames))
+    ≡ and_then (as_value (and_then p result_of)) (continuation table calls frames)
 body_same table calls frames call p =
-    and_then-assoc p (λ how. End (Completion-given how)) (rest table (call ∷ calls) (frame.Body ∷ frames))
+    and_then-assoc p (λ how. End (Completion-given how)) (continuation table (call ∷ calls) (frame.Body ∷ frames))
     ∙ ap (and_then p) (fun_ext (λ how.
-    and_then-assoc (result_of how) (λ a. End (given_of a)) (rest table calls frames)))
-    ∙ sym (and_then-assoc p result_of (λ a. rest table calls frames (given_of a)))
-    ∙ sym (and_then-assoc (and_then p result_of) (λ a. End (given_of a)) (rest table calls frames))
+    and_then-assoc (result_of how) (λ a. End (given_of a)) (continuation table calls frames)))
+    ∙ sym (and_then-assoc p result_of (λ a. continuation table calls frames (given_of a)))
+    ∙ sym (and_then-assoc (and_then p result_of) (λ a. End (given_of a)) (continuation table calls frames))
 
 -- t is s with one more call, for whose body a frame waits
 body_waits : (s t : State) (call : Call) (p : Part Completion) (u : State) (a : Act)
-    → t ≡ record s { calls = call ∷ s.calls; stack = frame.Body ∷ s.stack } → Completes t p u a
-    → Gives s (and_then p result_of) u a
-body_waits s t call p u a is leads = record {
+    → t ≡ record s { calls = call ∷ s.calls; stack = frame.Body ∷ s.stack } → RefinesStatement t p u a
+    → RefinesExpression s (and_then p result_of) u a
+body_waits s t call p u a is refines = record {
   is = λ kept told.
-      leads.is kept told
-      ∙ ap (λ (v : State). run_in kept told v (and_then (as_completion p) (rest_of v))) is
+      refines.is kept told
+      ∙ ap (λ (v : State). run_in kept told v (and_then (as_completion p) (continuation_of v))) is
       ∙ ap (λ q. run_in kept told s q) (body_same (table_of s.functions) s.calls s.stack call p);
 }
 
@@ -64,24 +65,25 @@ statements_are table f c =
 -- the statements of a body, in a call that was begun
 pub runs_body : (s : State) (calls : List Call) (frames : List Frame) (f : Function) (here : Here) (call : Call)
     (u : State) (a : Act) → calls ≡ call ∷ s.calls → frames ≡ frame.Body ∷ s.stack
-    → Completes (record s { calls = calls; stack = frames })
+    → RefinesStatement (record s { calls = calls; stack = frames })
     (execute_all (table_of s.functions) (plain_forest (view_statements (out-Body (out-Function f).body).statements))
     (context_of calls here)) u a
-    → Gives s (body_result (table_of s.functions) (plain (view_function f)) (context_of (call ∷ s.calls) here)) u a
-runs_body s calls frames f here call u a begun waits leads =
-    subst (λ p. Gives s (and_then p result_of) u a)
+    → RefinesExpression s (body_result (table_of s.functions) (plain (view_function f))
+    (context_of (call ∷ s.calls) here)) u a
+runs_body s calls frames f here call u a begun waits refines =
+    subst (λ p. RefinesExpression s (and_then p result_of) u a)
     (sym (statements_are (table_of s.functions) f (context_of (call ∷ s.calls) here)))
     (body_waits s (record s { calls = calls; stack = frames }) call _ u a
     (ap (λ l. record s { calls = l; stack = frames }) begun
     ∙ ap (λ l. record s { calls = call ∷ s.calls; stack = l }) waits)
-    (subst (λ l. Completes (record s { calls = calls; stack = frames })
+    (subst (λ l. RefinesStatement (record s { calls = calls; stack = frames })
     (execute_all (table_of s.functions) (plain_forest (view_statements (out-Body (out-Function f).body).statements))
-    (context_of l here)) u a) begun leads))
+    (context_of l here)) u a) begun refines))
 
 -- that a function is left is an operation of the script's own
 left_alike : (s : State) (f : ScriptFunction) (p : Part Completion) (kept : Operation → Bool) (told : List Operation)
-    → run_in kept told s (and_then (as_value (and_then p result_of)) (rest_of s))
-    ≡ run_in kept told s (and_then (as_value (and_then p (leave_function f))) (rest_of s))
+    → run_in kept told s (and_then (as_value (and_then p result_of)) (continuation_of s))
+    ≡ run_in kept told s (and_then (as_value (and_then p (leave_function f))) (continuation_of s))
 left_alike s f p kept told =
     ap (λ q. run_in kept told s q) (apart result_of)
     ∙ run-and_then language (quietly kept) (job (table_of s.functions)) (later result_of) s.left p (run_state told s)
@@ -92,13 +94,13 @@ left_alike s f p kept told =
     ∙ sym (ap (λ q. run_in kept told s q) (apart (leave_function f)))
   where
     later : (Completion → Part (Answer Value)) → Completion → Part Completion
-    later k how = and_then (as_value (k how)) (rest_of s)
+    later k how = and_then (as_value (k how)) (continuation_of s)
 
     apart : (k : Completion → Part (Answer Value))
-        → and_then (as_value (and_then p k)) (rest_of s) ≡ and_then p (later k)
+        → and_then (as_value (and_then p k)) (continuation_of s) ≡ and_then p (later k)
     apart k =
-        ap (λ q. and_then q (rest_of s)) (and_then-assoc p k (λ a. End (given_of a)))
-        ∙ and_then-assoc p (λ how. as_value (k how)) (rest_of s)
+        ap (λ q. and_then q (continuation_of s)) (and_then-assoc p k (λ a. End (given_of a)))
+        ∙ and_then-assoc p (λ how. as_value (k how)) (continuation_of s)
 
     each : (how : Completion) (n : ℕ) (w : RunState Store Operation)
         → run language (quietly kept) (job (table_of s.functions)) n (later result_of how) w
@@ -107,9 +109,9 @@ left_alike s f p kept told =
 
 -- a function that has been entered runs, as its body does
 pub runs_function : (s : State) (f : ScriptFunction) (this : Value) (call : parts.Call) (c : Context) (t : State)
-    (a : Act) → Gives s (body_result (table_of s.functions) f.func c) t a
-    → Gives s (run_function (table_of s.functions) f this call c) t a
-runs_function s f this call c t a leads = record {
+    (a : Act) → RefinesExpression s (body_result (table_of s.functions) f.func c) t a
+    → RefinesExpression s (run_function (table_of s.functions) f this call c) t a
+runs_function s f this call c t a refines = record {
   is = λ kept told.
-      leads.is kept told ∙ left_alike s f (run_body (table_of s.functions) (function_body f.func) c) kept told;
+      refines.is kept told ∙ left_alike s f (run_body (table_of s.functions) (function_body f.func) c) kept told;
 }

@@ -21,7 +21,7 @@ use Rattle.jl_meaning.specs.Parts as parts
 use Rattle.jl_meaning.specs.Store.{next_object, Store}
 use Rattle.jl_meaning.specs.forms.Functions.{call_script, construct_script, new_instance, prototype_for}
 use Rattle.jl_store.specs.Changes.{after}
-use Rattle.jl_state.specs.Rest.{Gives, Works}
+use Rattle.jl_state.specs.Rest.{RefinesExpression, RefinesAlgorithm}
 use Rattle.jl_state.specs.Steps.{ValueWaits}
 use Rattle.jl_state.specs.ValueFrames.{value_after}
 use Rattle.jl_state.specs.Words.{call_of, function_of, table_of}
@@ -94,38 +94,40 @@ there l n some = by (slice_get l n) refl some
 pub begins_construction : (s u : State) (number env : ℕ) (call : Invocation) (name : Name) (t : State) (a : Act)
     → is_some (slice_get s.functions number) ≡ true → name ≡ codes "prototype"
     → ValueWaits s (waiting.InstancePrototype number env call) u
-    → Works u (get (value.Obj call.callee) name) t a
-    → Gives s (construct_if_known (table_of s.functions) (slice_get (table_of s.functions) number) env (call_of call))
+    → RefinesAlgorithm u (get (value.Obj call.callee) name) t a
+    → RefinesExpression s (construct_if_known (table_of s.functions) (slice_get (table_of s.functions) number) env
+    (call_of call))
     t a
-begins_construction s u number env call name t a some is waits leads =
+begins_construction s u number env call name t a some is waits refines =
     let f = there s.functions number some in
-    subst (λ o. Gives s (construct_if_known (table_of s.functions) o env (call_of call)) t a) (sym f.1)
-    (subst (λ p. Gives s p t a) (construct_is (table_of s.functions) f.0 env (call_of call))
-    (subst (λ (k : Value → Part (Answer Value)). Gives s (lift (prototype_of (call_of call)) >>= k) t a)
+    subst (λ o. RefinesExpression s (construct_if_known (table_of s.functions) o env (call_of call)) t a) (sym f.1)
+    (subst (λ p. RefinesExpression s p t a) (construct_is (table_of s.functions) f.0 env (call_of call))
+    (subst (λ (k : Value → Part (Answer Value)). RefinesExpression s (lift (prototype_of (call_of call)) >>= k) t a)
     (fun_ext (λ proto. after_prototype (table_of s.functions) s.calls number env call f.0 proto f.1))
     (waits.works (get (value.Obj call.callee) (codes "prototype")) t a
-    (subst (λ x. Works u (get (value.Obj call.callee) x) t a) is leads))))
+    (subst (λ x. RefinesAlgorithm u (get (value.Obj call.callee) x) t a) is refines))))
 
 -- the object is made, with which the function is called
 pub goes_on_with : (s : State) (x : Store) (u : State) (number env : ℕ) (call : Invocation) (proto : Value)
     (made : ObjId) (t : State) (a : Act) → is_some (slice_get s.functions number) ≡ true → made ≡ next_object s.store
     → x ≡ after (NewObject class.Object (Some (prototype_for proto)) inner.Nothing) s.store
     → ValueWaits (record s { store = x }) (waiting.Constructed (value.Obj made)) u → u.functions ≡ s.functions
-    → Gives u (call_if_known (table_of u.functions) (slice_get (table_of u.functions) number) env
+    → RefinesExpression u (call_if_known (table_of u.functions) (slice_get (table_of u.functions) number) env
     (record (call_of call) { this = value.Obj made })) t a
-    → Gives s (value_after (table_of s.functions) s.calls (waiting.InstancePrototype number env call) proto) t a
-goes_on_with s x u number env call proto made t a some next is waits functions leads =
+    → RefinesExpression s (value_after (table_of s.functions) s.calls
+    (waiting.InstancePrototype number env call) proto) t a
+goes_on_with s x u number env call proto made t a some next is waits functions refines =
     let f = there s.functions number some in
-    subst (λ p. Gives s p t a)
+    subst (λ p. RefinesExpression s p t a)
     (sym (after_prototype (table_of s.functions) s.calls number env call f.0 proto f.1))
     (gives_comes s (record s { store = x }) refl
     (new_object class.Object (Some (prototype_for proto)) inner.Nothing) made
     (with_object (table_of s.functions) f.0 env (call_of call)) t a
-    (record { leads = (ap (λ i. Ends (gives i)) (sym next), sym is) })
-    (subst (λ o. Gives (record s { store = x })
+    (record { refines = (ap (λ i. Ends (gives i)) (sym next), sym is) })
+    (subst (λ o. RefinesExpression (record s { store = x })
     (call_if_known (table_of s.functions) o env (record (call_of call) { this = value.Obj made })
     >>= λ v. give (if is_object v then v else value.Obj made)) t a) f.1
     (waits.gives (call_if_known (table_of s.functions) (slice_get (table_of s.functions) number) env
     (record (call_of call) { this = value.Obj made })) t a
-    (subst (λ l. Gives u (call_if_known (table_of l) (slice_get (table_of l) number) env
-    (record (call_of call) { this = value.Obj made })) t a) functions leads))))
+    (subst (λ l. RefinesExpression u (call_if_known (table_of l) (slice_get (table_of l) number) env
+    (record (call_of call) { this = value.Obj made })) t a) functions refines))))

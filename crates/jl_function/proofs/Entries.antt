@@ -25,13 +25,13 @@ use Rattle.jl_meaning.specs.forms.Functions.{call_script, enter_function, functi
 use Rattle.jl_meaning.specs.Conversions.{to_object}
 use Rattle.jl_store.specs.Answers.{ends_with}
 use Rattle.jl_store.specs.Changes.{after}
-use Rattle.jl_store.specs.Comes.{Comes}
+use Rattle.jl_store.specs.BigStep.{BigStep}
 use Rattle.jl_store.specs.Plain.{code_in}
 use Rattle.jl_store.specs.declared.answer.Answer.{Answer as Answered}
 use Rattle.jl_store.specs.declared.answer.Answer.TheVariants as answer
 use Rattle.jl_store.proofs.Chains.{comes_after, comes_on, comes_thrown}
 use Rattle.jl_store.proofs.Trees.{plain_is}
-use Rattle.jl_state.specs.Rest.{Gives}
+use Rattle.jl_state.specs.Rest.{RefinesExpression}
 use Rattle.jl_state.specs.Words.{call_of, context_of, function_of, table_of}
 use Rattle.jl_state.specs.declared.act.Act.{Act}
 use Rattle.jl_state.specs.declared.act.Act.TheVariants as act
@@ -73,34 +73,36 @@ declares_alike (tree.body s fs l) strict callee params args c =
 pub enters : (s t u : Store) (f : ScriptFunction) (b : Code) (params : List Name) (args : List Value)
     (env inside : ℕ) (call : parts.Call) (this : Value) → inside ≡ next_environment s
     → t ≡ after (NewEnvironment env) s → function_body f.func ≡ b → function_params f.func ≡ params → args ≡ call.args
-    → Comes (declare_body b f.strict call.callee params args (code_in inside f.strict)) t u (Ends (gives tt))
-    → Comes (enter_function f env this call) s u (Ends (gives (function_context f inside this call)))
+    → BigStep (declare_body b f.strict call.callee params args (code_in inside f.strict)) t u (Ends (gives tt))
+    → BigStep (enter_function f env this call) s u (Ends (gives (function_context f inside this call)))
 unfolding enter_function
 enters s t u f b params args env inside call this next made body_is params_is args_are declared =
-    subst (λ n. Comes (enter_function f env this call) s u (Ends (gives (function_context f n this call)))) (sym next)
-    (record { leads = (comes_after there (record { leads = (refl, refl) })).leads })
+    subst (λ n. BigStep (enter_function f env this call) s u (Ends (gives (function_context f n this call)))) (sym next)
+    (record { refines = (comes_after there (record { refines = (refl, refl) })).refines })
   where
     declares : Code → List Name → ℕ → Algorithm (Unit {0})
     declares d xs n = declare_body d f.strict call.callee xs call.args (function_context f n this call)
 
-    in_call : Comes (declares b params inside) t u (Ends (gives tt))
+    in_call : BigStep (declares b params inside) t u (Ends (gives tt))
     in_call =
-        subst (λ p. Comes p t u (Ends (gives tt)))
+        subst (λ p. BigStep p t u (Ends (gives tt)))
         (declares_alike b f.strict call.callee params call.args (function_context f inside this call))
-        (subst (λ l. Comes (declare_body b f.strict call.callee params l (code_in inside f.strict)) t u
+        (subst (λ l. BigStep (declare_body b f.strict call.callee params l (code_in inside f.strict)) t u
         (Ends (gives tt))) args_are declared)
 
-    of_function : Comes (declares (function_body f.func) (function_params f.func) inside) t u (Ends (gives tt))
+    of_function : BigStep (declares (function_body f.func) (function_params f.func) inside) t u (Ends (gives tt))
     of_function =
-        subst (λ d. Comes (declares d (function_params f.func) inside) t u (Ends (gives tt))) (sym body_is)
-        (subst (λ xs. Comes (declares b xs inside) t u (Ends (gives tt))) (sym params_is) in_call)
+        subst (λ d. BigStep (declares d (function_params f.func) inside) t u (Ends (gives tt))) (sym body_is)
+        (subst (λ xs. BigStep (declares b xs inside) t u (Ends (gives tt))) (sym params_is) in_call)
 
-    there : Comes (declares (function_body f.func) (function_params f.func) (next_environment s))
+    there : BigStep (declares (function_body f.func) (function_params f.func) (next_environment s))
         (after (NewEnvironment env) s) u (Ends (gives tt))
     there =
-        subst (λ n. Comes (declares (function_body f.func) (function_params f.func) n) (after (NewEnvironment env) s) u
+        subst (λ n. BigStep (declares (function_body f.func) (function_params f.func) n)
+        (after (NewEnvironment env) s) u
         (Ends (gives tt))) next
-        (subst (λ v. Comes (declares (function_body f.func) (function_params f.func) inside) v u (Ends (gives tt))) made
+        (subst (λ v. BigStep (declares (function_body f.func) (function_params f.func) inside) v u
+        (Ends (gives tt))) made
         of_function)
 
 -- where a body runs is where the function was entered
@@ -130,48 +132,50 @@ module _ (s : State) (x y : Store) (f : ScriptFunction) (env inside : ℕ) (call
   entered = record s { store = y }
 
   pub calls_script : (c : Context) (t : State) (a : Act) (r : Answered Value)
-      → Comes (this_within f.strict call.this) s.store x (ends_with r) → r ≡ answer.Gives this
-      → Comes (enter_function f env this call) x y (Ends (gives (function_context f inside this call)))
-      → c ≡ function_context f inside this call → Gives entered (body_result (table_of s.functions) f.func c) t a
-      → Gives s (call_script (table_of s.functions) f env call) t a
-  calls_script c t a r comes given entry is leads =
+      → BigStep (this_within f.strict call.this) s.store x (ends_with r) → r ≡ answer.Gives this
+      → BigStep (enter_function f env this call) x y (Ends (gives (function_context f inside this call)))
+      → c ≡ function_context f inside this call
+      → RefinesExpression entered (body_result (table_of s.functions) f.func c) t a
+      → RefinesExpression s (call_script (table_of s.functions) f env call) t a
+  calls_script c t a r comes given entry is refines =
       gives_comes s (record s { store = x }) refl (this_within f.strict call.this) this _ t a
-      (subst (λ b. Comes (this_within f.strict call.this) s.store x (ends_with b)) given comes)
+      (subst (λ b. BigStep (this_within f.strict call.this) s.store x (ends_with b)) given comes)
       (gives_comes (record s { store = x }) entered refl (enter_function f env this call)
       (function_context f inside this call) _ t a entry
       (runs_function entered f this call (function_context f inside this call) t a
-      (subst (λ d. Gives entered (body_result (table_of s.functions) f.func d) t a) is leads)))
+      (subst (λ d. RefinesExpression entered (body_result (table_of s.functions) f.func d) t a) is refines)))
 
 -- where `this` can't be an object, nothing is called
 pub throws_this : (s : State) (x : Store) (f : ScriptFunction) (env : ℕ) (call : parts.Call) (v : Value)
-    (r : Answered Value) → Comes (this_within f.strict call.this) s.store x (ends_with r) → r ≡ answer.Throws v
-    → Gives s (call_script (table_of s.functions) f env call) (record s { store = x })
+    (r : Answered Value) → BigStep (this_within f.strict call.this) s.store x (ends_with r) → r ≡ answer.Throws v
+    → RefinesExpression s (call_script (table_of s.functions) f env call) (record s { store = x })
     (act.Complete (completion.Throw v))
 throws_this s x f env call v r comes is =
     gives_thrown s (record s { store = x }) refl (this_within f.strict call.this) v _
-    (subst (λ b. Comes (this_within f.strict call.this) s.store x (ends_with b)) is comes)
+    (subst (λ b. BigStep (this_within f.strict call.this) s.store x (ends_with b)) is comes)
 
 -- the same of a function with a number
 
 pub calls_known : (s : State) (number env : ℕ) (call : parts.Call) (f : Known) (t : State) (a : Act)
     → slice_get s.functions number ≡ Some f
-    → Gives s (call_script (table_of s.functions) (function_of f) env call) t a
-    → Gives s (call_if_known (table_of s.functions) (slice_get (table_of s.functions) number) env call) t a
-calls_known s number env call f t a found leads =
-    subst (λ o. Gives s (call_if_known (table_of s.functions) o env call) t a) (sym (known s.functions number f found))
-    leads
+    → RefinesExpression s (call_script (table_of s.functions) (function_of f) env call) t a
+    → RefinesExpression s (call_if_known (table_of s.functions) (slice_get (table_of s.functions) number) env call) t a
+calls_known s number env call f t a found refines =
+    subst (λ o. RefinesExpression s (call_if_known (table_of s.functions) o env call) t a)
+    (sym (known s.functions number f found))
+    refines
 
 -- `this` as an object
 
 pub object_is : (v : Value) (s t : Store) (r : Answered ObjId) (id : ObjId)
-    → Comes (to_object v) s t (ends_with r) → r ≡ answer.Gives id
-    → Comes (this_as_object v) s t (Ends (gives (value.Obj id)))
+    → BigStep (to_object v) s t (ends_with r) → r ≡ answer.Gives id
+    → BigStep (this_as_object v) s t (Ends (gives (value.Obj id)))
 object_is v s t r id comes is =
-    comes_on (λ i. give (value.Obj i)) (subst (λ b. Comes (to_object v) s t (ends_with b)) is comes)
-    (record { leads = (refl, refl) })
+    comes_on (λ i. give (value.Obj i)) (subst (λ b. BigStep (to_object v) s t (ends_with b)) is comes)
+    (record { refines = (refl, refl) })
 
 pub no_object : (v : Value) (s t : Store) (r : Answered ObjId) (thrown : Value)
-    → Comes (to_object v) s t (ends_with r) → r ≡ answer.Throws thrown
-    → Comes (this_as_object v) s t (Ends (throws thrown))
+    → BigStep (to_object v) s t (ends_with r) → r ≡ answer.Throws thrown
+    → BigStep (this_as_object v) s t (Ends (throws thrown))
 no_object v s t r thrown comes is =
-    comes_thrown (λ i. give (value.Obj i)) (subst (λ b. Comes (to_object v) s t (ends_with b)) is comes)
+    comes_thrown (λ i. give (value.Obj i)) (subst (λ b. BigStep (to_object v) s t (ends_with b)) is comes)

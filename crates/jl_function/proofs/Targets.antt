@@ -4,7 +4,7 @@ use Rattle.std.proofs.lemmas.Bool.{false≢true}
 use Rattle.jl_value.specs.declared.object.ObjId.{ObjId}
 use Rattle.jl_value.specs.declared.value.Value.{Value}
 use Rattle.jl_meaning.specs.Jobs.{call_bound}
-use Rattle.jl_state.specs.Rest.{Works}
+use Rattle.jl_state.specs.Rest.{RefinesAlgorithm}
 use Rattle.jl_state.specs.declared.act.Act.{Act}
 use Rattle.jl_state.specs.declared.act.Act.TheVariants as act
 use Rattle.jl_state.specs.declared.state.State.{State}
@@ -12,7 +12,7 @@ use Rattle.jl_state.specs.declared.state.State.{State}
 -- it is called, or constructed by, where it can construct
 pub calls_target : (s : State) (can constructs by_new : Bool) (target : ObjId) (this : Value) (args : List Value)
     → constructs ≡ can → ((by_new ≡ true) × (constructs ≡ true)) ⊎ (by_new ≡ false)
-    → Works s (call_bound can target this args by_new) s
+    → RefinesAlgorithm s (call_bound can target this args by_new) s
     (act.Call (record { callee = target; this = this; args = args; by_new = by_new }))
 unfolding call_bound
 calls_target s true constructs true target this args same allowed = record { is = λ kept told. refl }

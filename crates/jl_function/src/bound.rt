@@ -20,9 +20,9 @@ pub fn call_bound<'p>(
     args: List<Value>,
     by_new: bool,
 ) -> Result<Act<'p>, NoMemory>
-    ensures leads { Computes state.old (call_bound (has_construct (object_at state.old.store.heap target.0).inner)
+    ensures refines { Computes state.old (call_bound (has_construct (object_at state.old.store.heap target.0).inner)
         target this args by_new) result state.new }
-    ensures falls { RankAtMost state.old 3 result state.new }
+    ensures bounded { RankAtMost state.old 3 result state.new }
 {
     let alloc = state.alloc();
     let constructs = has_construct(state.store.inner_of(target));

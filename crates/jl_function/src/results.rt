@@ -3,7 +3,7 @@ ghost use Rattle.std.specs.Prelude.{◌≡◌, ◌≤◌, IfOk};
 ghost use Rattle.jl_meaning.specs.forms.Functions.{result_of};
 ghost use Rattle.jl_state.specs.Clauses.{RankAtMost, Resumes};
 ghost use Rattle.jl_state.specs.Rank.{rank_act};
-ghost use Rattle.jl_state.specs.Rest.{Gives};
+ghost use Rattle.jl_state.specs.Rest.{RefinesExpression};
 ghost use Rattle.jl_state.specs.Words.{without_innermost};
 ghost use Rattle.jl_state.specs.declared.state.State.{State as Machine};
 
@@ -13,9 +13,9 @@ use jl_value::{Completion, Fault, Value, is_object};
 
 /// The body of a function has completed: the call is over (13.2.1).
 pub fn step_body<'p>(state: &mut State<'p>, how: Completion) -> Result<Act<'p>, NoMemory>
-    ensures leads { IfOk result (λ act. Gives
+    ensures refines { IfOk result (λ act. RefinesExpression
         (record state.old { calls = without_innermost state.old.calls }) (result_of how) state.new act) }
-    ensures falls { RankAtMost state.old 5 result state.new }
+    ensures bounded { RankAtMost state.old 5 result state.new }
 {
     end_call(state);
     Ok(result_of(how))
@@ -30,7 +30,7 @@ fn end_call(state: &mut State<'_>)
 
 /// What a function gives whose body has completed so. No body completes with a Break or a Continue.
 fn result_of<'p>(how: Completion) -> Act<'p>
-    ensures leads { (s : Machine) → Gives s (result_of how) s result }
+    ensures refines { (s : Machine) → RefinesExpression s (result_of how) s result }
     ensures low { rank_act result ≤ 2 }
 {
     match how {
@@ -48,8 +48,8 @@ pub fn step_constructed<'p>(
     object: Value,
     v: Value,
 ) -> Result<Act<'p>, NoMemory>
-    ensures leads { Resumes state.old (ValueFrame.Constructed object) v result state.new }
-    ensures falls { RankAtMost state.old 5 result state.new }
+    ensures refines { Resumes state.old (ValueFrame.Constructed object) v result state.new }
+    ensures bounded { RankAtMost state.old 5 result state.new }
 {
     if is_object(&v) {
         Ok(Act::Give(v))

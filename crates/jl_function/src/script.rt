@@ -7,17 +7,16 @@ ghost use Rattle.jl_meaning.specs.Jobs.{begin_known};
 ghost use Rattle.jl_meaning.specs.Parts.{gives};
 ghost use Rattle.jl_meaning.specs.forms.Functions.{enter_function, function_context, prototype_for, this_within};
 ghost use Rattle.jl_state.specs.Clauses.{Evaluates, RankAtMost, Resumes};
-ghost use Rattle.jl_state.specs.Rest.{Gives};
 ghost use Rattle.jl_state.specs.Trees.{plain};
 ghost use Rattle.jl_state.specs.Words.{call_of, context_of, function_of, table_of};
 ghost use Rattle.jl_store.specs.Answers.{ends_with};
-ghost use Rattle.jl_store.specs.Comes.{Comes};
+ghost use Rattle.jl_store.specs.BigStep.{BigStep};
 ghost use Rattle.jl_value.specs.declared.value.Value.{Value as AnyValue};
 
 use jl_algorithm::get;
 use jl_ast::Function;
 use jl_heap::Inner;
-use jl_state::{Act, Call, Frame, Here, Invocation, ScriptFunction, State, ValueFrame};
+use jl_state::{Act, Boxed, Call, Frame, Here, Invocation, ScriptFunction, State, ValueFrame};
 use jl_statement::begin_statements;
 use jl_store::{Answer, Store};
 use jl_text::{List, NoMemory, word};
@@ -32,7 +31,7 @@ fn this_within(
     strict: bool,
     v: &Value,
 ) -> Result<Answer<Value>, NoMemory>
-    ensures { IfOk result (λ answer. Comes (this_within strict v.now) store.old store.new (ends_with answer)) }
+    ensures { IfOk result (λ answer. BigStep (this_within strict v.now) store.old store.new (ends_with answer)) }
 {
     if strict {
         return Ok(Answer::Gives(share(alloc, v)?));
@@ -45,7 +44,7 @@ fn this_within(
 
 /// ToObject of a value, as a value.
 fn this_as_object(store: &mut Store, v: &Value) -> Result<Answer<Value>, NoMemory>
-    ensures { IfOk result (λ answer. Comes (this_as_object v.now) store.old store.new (ends_with answer)) }
+    ensures { IfOk result (λ answer. BigStep (this_as_object v.now) store.old store.new (ends_with answer)) }
 {
     match store.to_object(v)? {
         Answer::Gives(id) => Ok(Answer::Gives(Value::Obj(id))),
@@ -60,7 +59,7 @@ fn enter_function(
     env: usize,
     call: &Invocation,
 ) -> Result<usize, NoMemory>
-    ensures { IfOk result (λ inside. (this : AnyValue) → Comes
+    ensures { IfOk result (λ inside. (this : AnyValue) → BigStep
         (enter_function (function_of f.now) env this (call_of call.now)) store.old store.new
         (Ends (gives (function_context (function_of f.now) inside this (call_of call.now))))) }
 {
@@ -84,9 +83,9 @@ fn run_body<'p>(
     here: Here,
     call: Call,
 ) -> Result<Act<'p>, NoMemory>
-    ensures leads { Evaluates state.old (body_result (table_of state.old.functions) (plain (view_function
+    ensures refines { Evaluates state.old (body_result (table_of state.old.functions) (plain (view_function
         function.now)) (context_of (call ∷ state.old.calls) here)) result state.new }
-    ensures falls { RankAtMost state.old 17 result state.new }
+    ensures bounded { RankAtMost state.old 17 result state.new }
 {
     state.calls.push(call)?;
     state.stack.push(Frame::Body)?;
@@ -100,9 +99,9 @@ fn call_if_known<'p>(
     env: usize,
     call: &Invocation,
 ) -> Result<Act<'p>, NoMemory>
-    ensures leads { Evaluates state.old (call_if_known (table_of state.old.functions) (slice_get (table_of
+    ensures refines { Evaluates state.old (call_if_known (table_of state.old.functions) (slice_get (table_of
         state.old.functions) number) env (call_of call.now)) result state.new }
-    ensures falls { RankAtMost state.old 17 result state.new }
+    ensures bounded { RankAtMost state.old 17 result state.new }
 {
     let alloc = state.alloc();
     let Some(f) = state.functions.items().get(number as usize) else {
@@ -141,9 +140,9 @@ fn construct_if_known<'p>(
     env: usize,
     call: Invocation,
 ) -> Result<Act<'p>, NoMemory>
-    ensures leads { Evaluates state.old (construct_if_known (table_of state.old.functions) (slice_get (table_of
+    ensures refines { Evaluates state.old (construct_if_known (table_of state.old.functions) (slice_get (table_of
         state.old.functions) number) env (call_of call)) result state.new }
-    ensures falls { RankAtMost state.old 64 result state.new }
+    ensures bounded { RankAtMost state.old 64 result state.new }
 {
     let alloc = state.alloc();
     if !is_known(&state.functions, number) {
@@ -151,6 +150,7 @@ fn construct_if_known<'p>(
     }
     let name = word(alloc, "prototype")?;
     let callee = Value::Obj(call.callee);
+    let call = Boxed::of(alloc, call)?;
     state.push_value(ValueFrame::InstancePrototype {
         function: number,
         env,
@@ -166,9 +166,9 @@ pub fn begin_script<'p>(
     env: usize,
     call: Invocation,
 ) -> Result<Act<'p>, NoMemory>
-    ensures leads { Evaluates state.old (begin_known (table_of state.old.functions) (slice_get (table_of
+    ensures refines { Evaluates state.old (begin_known (table_of state.old.functions) (slice_get (table_of
         state.old.functions) number) env (call_of call)) result state.new }
-    ensures falls { RankAtMost state.old 64 result state.new }
+    ensures bounded { RankAtMost state.old 64 result state.new }
 {
     if call.by_new {
         construct_if_known(state, number, env, call)
@@ -195,8 +195,8 @@ pub fn step_instance_prototype<'p>(
     call: Invocation,
     proto: Value,
 ) -> Result<Act<'p>, NoMemory>
-    ensures leads { Resumes state.old (ValueFrame.InstancePrototype function env call) proto result state.new }
-    ensures falls { RankAtMost state.old 62 result state.new }
+    ensures refines { Resumes state.old (ValueFrame.InstancePrototype function env call) proto result state.new }
+    ensures bounded { RankAtMost state.old 62 result state.new }
 {
     if !is_known(&state.functions, function) {
         return Ok(Act::Give(Value::Undefined));

@@ -13,11 +13,11 @@ use Rattle.jl_meaning.specs.builtins.Arguments.{give_object}
 use Rattle.jl_meaning.specs.builtins.Array.{append, append_all, append_array, is_array_value}
 use Rattle.jl_meaning.specs.builtins.Elements.{add_index, copy}
 use Rattle.jl_meaning.specs.forms.Literals.{new_array}
-use Rattle.jl_store.specs.Comes.{Comes}
+use Rattle.jl_store.specs.BigStep.{BigStep}
 use Rattle.jl_progress.specs.Arrays.{after_copying, array_after}
 use Rattle.jl_progress.specs.declared.array.AfterCopying.TheVariants as copied
 use Rattle.jl_progress.specs.declared.array.ArrayProgress.TheVariants as array
-use Rattle.jl_state.specs.Rest.{Works}
+use Rattle.jl_state.specs.Rest.{RefinesAlgorithm}
 use Rattle.jl_state.specs.declared.act.Act.{Act}
 use Rattle.jl_state.specs.declared.state.State.{State}
 use Rattle.jl_state.proofs.Stores.{works_comes, IsStored}
@@ -29,26 +29,28 @@ module _ (s t : State) (a : Act) (o : ObjId) (n : ℕ) (v : Value) (items : List
   abbrev others : ℕ → Algorithm Value
   others m = append_all o m (drop from items) >>= λ _. give_object o
 
-  looked : (b : Bool) → b ≡ is_array_value s.store.heap v → Works s (append_array b o n v >>= others) t a
-      → Works s (append o n v >>= others) t a
-  looked b is leads =
-      let found = subst (λ c. Works s (append_array c o n v >>= others) t a) is leads in record { is = found.is }
+  looked : (b : Bool) → b ≡ is_array_value s.store.heap v → RefinesAlgorithm s (append_array b o n v >>= others) t a
+      → RefinesAlgorithm s (append o n v >>= others) t a
+  looked b is refines =
+      let found = subst (λ c. RefinesAlgorithm s
+      (append_array c o n v >>= others) t a) is refines in record { is = found.is }
 
   -- an item that is no array is an element
   pub appends_value : (after : ℕ) → is_array_value s.store.heap v ≡ false → after ≡ n + 1
-      → Works s (add_index o n v >>= λ _. others after) t a → Works s (append o n v >>= others) t a
-  appends_value after no_array more leads =
+      → RefinesAlgorithm s (add_index o n v >>= λ _. others after) t a
+      → RefinesAlgorithm s (append o n v >>= others) t a
+  appends_value after no_array more refines =
       looked false (sym no_array) (works_assoc s (add_index o n v) (λ _. give (n + 1)) others t a
-      (subst (λ m. Works s (add_index o n v >>= λ _. others m) t a) more leads))
+      (subst (λ m. RefinesAlgorithm s (add_index o n v >>= λ _. others m) t a) more refines))
 
   -- of an array the length is got, and then its elements are copied
   pub appends_elements : (e : ObjId) → v ≡ value.Obj e → is_array_value s.store.heap v ≡ true
-      → Works s (get (value.Obj e) length_name >>= array_after (array.ConcatLength o n e items from)) t a
-      → Works s (append o n v >>= others) t a
-  appends_elements e is an_array leads =
+      → RefinesAlgorithm s (get (value.Obj e) length_name >>= array_after (array.ConcatLength o n e items from)) t a
+      → RefinesAlgorithm s (append o n v >>= others) t a
+  appends_elements e is an_array refines =
       looked true (sym an_array)
-      (subst (λ w. Works s (append_array true o n w >>= others) t a) (sym is)
-      (subst (λ p. Works s p t a) (sym apart) leads))
+      (subst (λ w. RefinesAlgorithm s (append_array true o n w >>= others) t a) (sym is)
+      (subst (λ p. RefinesAlgorithm s p t a) (sym apart) refines))
     where
       copied_then : Value → Algorithm ℕ
       copied_then l = copy e 0 o (count_of l) n >>= λ _. give (n + count_of l)
@@ -62,19 +64,21 @@ module _ (s t : State) (a : Act) (o : ObjId) (n : ℕ) (v : Value) (items : List
 
 -- a new array is made, to which the object and the arguments are appended
 pub concats : (s t u : State) (a : Act) (o id : ObjId) (args items first : List Value) → IsStored s t
-    → Comes new_array s.store t.store (Ends (gives id)) → first ≡ value.Obj o ∷ [] → items ≡ first ++ args
-    → Works t (append_all id 0 (drop 0 items) >>= λ _. give_object id) u a → Works s (concat_on o args) u a
-concats s t u a o id args items first stored comes begins are leads =
+    → BigStep new_array s.store t.store (Ends (gives id)) → first ≡ value.Obj o ∷ [] → items ≡ first ++ args
+    → RefinesAlgorithm t (append_all id 0 (drop 0 items) >>= λ _. give_object id) u a
+    → RefinesAlgorithm s (concat_on o args) u a
+concats s t u a o id args items first stored comes begins are refines =
     works_comes s t stored new_array id
     (λ array. append_all array 0 (value.Obj o ∷ args) >>= λ _. give_object array) u a comes
-    (subst (λ (l : List Value). Works t (append_all id 0 (l ++ args) >>= λ _. give_object id) u a) begins
-    (subst (λ (l : List Value). Works t (append_all id 0 l >>= λ _. give_object id) u a) are leads))
+    (subst (λ (l : List Value). RefinesAlgorithm t (append_all id 0 (l ++ args) >>= λ _. give_object id) u a) begins
+    (subst (λ (l : List Value). RefinesAlgorithm t (append_all id 0 l >>= λ _. give_object id) u a) are refines))
 
 -- its elements are copied
 pub copies_items : (s t : State) (a : Act) (o e : ObjId) (n left after from : ℕ) (items : List Value) (v : Value)
     → left ≡ count_of v → after ≡ n + left
-    → Works s (copy e 0 o left n >>= λ _. after_copying o (copied.Concat after items from)) t a
-    → Works s (array_after (array.ConcatLength o n e items from) v) t a
-copies_items s t a o e n left after from items v is more leads =
-    subst (λ m. Works s (copy e 0 o m n >>= λ _. after_copying o (copied.Concat (n + m) items from)) t a) is
-    (subst (λ m. Works s (copy e 0 o left n >>= λ _. after_copying o (copied.Concat m items from)) t a) more leads)
+    → RefinesAlgorithm s (copy e 0 o left n >>= λ _. after_copying o (copied.Concat after items from)) t a
+    → RefinesAlgorithm s (array_after (array.ConcatLength o n e items from) v) t a
+copies_items s t a o e n left after from items v is more refines =
+    subst (λ m. RefinesAlgorithm s (copy e 0 o m n >>= λ _. after_copying o (copied.Concat (n + m) items from)) t a) is
+    (subst (λ m. RefinesAlgorithm s (copy e 0 o left n >>= λ _. after_copying o
+    (copied.Concat m items from)) t a) more refines)

@@ -14,7 +14,7 @@ use Rattle.jl_progress.specs.Arrays.{array_after, reverse_others, upper_of}
 use Rattle.jl_progress.specs.declared.array.ArrayProgress.{ArrayProgress}
 use Rattle.jl_progress.specs.declared.array.ArrayProgress.TheVariants as array
 use Rattle.jl_progress.specs.declared.array.Reversing.{Reversing}
-use Rattle.jl_state.specs.Rest.{Works}
+use Rattle.jl_state.specs.Rest.{RefinesAlgorithm}
 use Rattle.jl_state.specs.Steps.{RanOut, Took}
 use Rattle.jl_state.specs.declared.act.Act.{Act}
 use Rattle.jl_state.specs.declared.act.Act.TheVariants as act
@@ -39,16 +39,17 @@ module _ (o : ObjId) (lower upper : ℕ) (k : Unit {0} → Algorithm Value) wher
 
 -- a turn that was begun gets the lower element
 pub reverses : (s t : State) (a : Act) (r : Reversing) (lower left : ℕ)
-    → Works s (get_index r.object lower >>= array_after (array.ReverseLower (record {
+    → RefinesAlgorithm s (get_index r.object lower >>= array_after (array.ReverseLower (record {
       object = r.object;
       length = r.length;
       lower = lower;
       left = left;
     }))) t a
-    → Works s (reverse_turn r.object lower (r.length - lower - 1) >>= λ _. reverse_others r left (lower + 1)) t a
-reverses s t a r lower left leads =
-    subst (λ p. Works s p t a)
-    (sym (turn_is r.object lower (r.length - lower - 1) (λ _. reverse_others r left (lower + 1)))) leads
+    → RefinesAlgorithm s (reverse_turn r.object lower (r.length - lower - 1) >>= λ _. reverse_others r left
+    (lower + 1)) t a
+reverses s t a r lower left refines =
+    subst (λ p. RefinesAlgorithm s p t a)
+    (sym (turn_is r.object lower (r.length - lower - 1) (λ _. reverse_others r left (lower + 1)))) refines
 
 -- what is there of the two
 
@@ -59,25 +60,29 @@ module _ (s t : State) (a : Act) (r : Reversing) (low high : Value) (has_low has
     abbrev rest : Unit {0} → Algorithm Value
     rest _ = reverse_others r r.left (r.lower + 1)
 
-    exchanges : Works s (exchange r.object r.lower (upper_of r) low high has_low has_high >>= rest) t a
-        → Works s (array_after (array.ReverseUpper r low) high) t a
-    exchanges leads =
+    exchanges : RefinesAlgorithm s (exchange r.object r.lower (upper_of r) low high has_low has_high >>= rest) t a
+        → RefinesAlgorithm s (array_after (array.ReverseUpper r low) high) t a
+    exchanges refines =
         let found =
-        subst (λ b. Works s (exchange r.object r.lower (upper_of r) low high (has_index s.store r.object r.lower) b
+        subst (λ b. RefinesAlgorithm s (exchange r.object r.lower (upper_of r) low high
+        (has_index s.store r.object r.lower) b
         >>= rest) t a) is_high
-        (subst (λ b. Works s (exchange r.object r.lower (upper_of r) low high b has_high >>= rest) t a) is_low
-        leads)
+        (subst (λ b. RefinesAlgorithm s (exchange r.object r.lower
+        (upper_of r) low high b has_high >>= rest) t a) is_low
+        refines)
         in record { is = found.is }
 
     pub upper_there : has_high ≡ true → (kept : Option Value) → kept ≡ (if has_low then Some low else None)
-        → Works s (put_index r.object r.lower high >>= λ _. put_or_delete r.object (upper_of r) kept >>= rest) t a
-        → Works s (array_after (array.ReverseUpper r low) high) t a
-    upper_there there kept is leads =
+        → RefinesAlgorithm s (put_index r.object r.lower high >>= λ _. put_or_delete r.object
+        (upper_of r) kept >>= rest) t a
+        → RefinesAlgorithm s (array_after (array.ReverseUpper r low) high) t a
+    upper_there there kept is refines =
         exchanges
-        (subst (λ b. Works s (exchange r.object r.lower (upper_of r) low high has_low b >>= rest) t a) (sym there)
-        (subst (λ p. Works s p t a) (by has_low)
-        (subst (λ (l : Option Value). Works s (put_index r.object r.lower high
-        >>= λ _. put_or_delete r.object (upper_of r) l >>= rest) t a) is leads)))
+        (subst (λ b. RefinesAlgorithm s (exchange r.object r.lower (upper_of r) low high has_low b >>= rest) t a)
+        (sym there)
+        (subst (λ p. RefinesAlgorithm s p t a) (by has_low)
+        (subst (λ (l : Option Value). RefinesAlgorithm s (put_index r.object r.lower high
+        >>= λ _. put_or_delete r.object (upper_of r) l >>= rest) t a) is refines)))
       where
         by : (b : Bool)
             → (put_index r.object r.lower high
@@ -87,22 +92,26 @@ module _ (s t : State) (a : Act) (r : Reversing) (low high : Value) (has_low has
         by false = sym (bind_assoc (put_index r.object r.lower high) (λ _. delete_index r.object (upper_of r)) rest)
 
     pub lower_there : has_high ≡ false → has_low ≡ true
-        → Works s (delete_index r.object r.lower >>= λ _. put_index r.object (upper_of r) low >>= rest) t a
-        → Works s (array_after (array.ReverseUpper r low) high) t a
-    lower_there missing there leads =
+        → RefinesAlgorithm s (delete_index r.object r.lower >>= λ _. put_index r.object (upper_of r) low >>= rest) t a
+        → RefinesAlgorithm s (array_after (array.ReverseUpper r low) high) t a
+    lower_there missing there refines =
         exchanges
-        (subst (λ b. Works s (exchange r.object r.lower (upper_of r) low high has_low b >>= rest) t a) (sym missing)
-        (subst (λ b. Works s (exchange r.object r.lower (upper_of r) low high b false >>= rest) t a) (sym there)
-        (works_assoc s (delete_index r.object r.lower) (λ _. put_index r.object (upper_of r) low) rest t a leads)))
+        (subst (λ b. RefinesAlgorithm s (exchange r.object r.lower (upper_of r) low high has_low b >>= rest) t a)
+        (sym missing)
+        (subst (λ b. RefinesAlgorithm s (exchange r.object r.lower (upper_of r) low high b false >>= rest) t a)
+        (sym there)
+        (works_assoc s (delete_index r.object r.lower) (λ _. put_index r.object (upper_of r) low) rest t a refines)))
 
     pub none_there : has_high ≡ false → has_low ≡ false → (after : ArrayProgress)
-        → array_after after value.Undefined ≡ rest tt → Works s (array_after after value.Undefined) t a
-        → Works s (array_after (array.ReverseUpper r low) high) t a
-    none_there missing none after is leads =
+        → array_after after value.Undefined ≡ rest tt → RefinesAlgorithm s (array_after after value.Undefined) t a
+        → RefinesAlgorithm s (array_after (array.ReverseUpper r low) high) t a
+    none_there missing none after is refines =
         exchanges
-        (subst (λ b. Works s (exchange r.object r.lower (upper_of r) low high has_low b >>= rest) t a) (sym missing)
-        (subst (λ b. Works s (exchange r.object r.lower (upper_of r) low high b false >>= rest) t a) (sym none)
-        (subst (λ p. Works s p t a) is leads)))
+        (subst (λ b. RefinesAlgorithm s (exchange r.object r.lower (upper_of r) low high has_low b >>= rest) t a)
+        (sym missing)
+        (subst (λ b. RefinesAlgorithm s (exchange r.object r.lower (upper_of r) low high b false >>= rest) t a)
+        (sym none)
+        (subst (λ p. RefinesAlgorithm s p t a) is refines)))
 
 -- turns in which two elements change places
 
@@ -114,27 +123,28 @@ module _ (s u : State) (a : Act) (r : Reversing) where
   given _ = give_object r.object
 
   pub reverses_end : r.left ≡ 0
-      → Works s (reverse_others r r.left r.lower) s (act.Give (value.Obj r.object))
+      → RefinesAlgorithm s (reverse_others r r.left r.lower) s (act.Give (value.Obj r.object))
   reverses_end none =
       upward_ends s s (act.Give (value.Obj r.object)) turn given r.left r.lower tt none
       (record { is = λ kept told. refl })
 
   pub reverses_spent : (r.left ≡ 0 → ⊥) → u ≡ s → RanOut s
-      → Works s (reverse_others r r.left r.lower) u act.Spent
+      → RefinesAlgorithm s (reverse_others r r.left r.lower) u act.Spent
   reverses_spent some same spent = upward_spent s u a turn given r.left r.lower tt some same spent
 
   pub reverses_take : (t : State) → (r.left ≡ 0 → ⊥) → Took s t
-      → Works t (get_index r.object r.lower >>= array_after (array.ReverseLower (record r { left = r.left - 1 }))) u a
-      → Works s (reverse_others r r.left r.lower) u a
-  reverses_take t some took leads =
-      upward_takes s u a turn given t r.left r.lower tt some took (reverses t u a r r.lower (r.left - 1) leads)
+      → RefinesAlgorithm t (get_index r.object r.lower >>= array_after
+      (array.ReverseLower (record r { left = r.left - 1 }))) u a
+      → RefinesAlgorithm s (reverse_others r r.left r.lower) u a
+  reverses_take t some took refines =
+      upward_takes s u a turn given t r.left r.lower tt some took (reverses t u a r r.lower (r.left - 1) refines)
 
 -- the lower element has been got, and the upper one is
 pub gets_upper : (s t : State) (a : Act) (r : Reversing) (low : Value) (upper : ℕ) → upper ≡ upper_of r
-    → Works s (get_index r.object upper >>= array_after (array.ReverseUpper r low)) t a
-    → Works s (array_after (array.ReverseLower r) low) t a
-gets_upper s t a r low upper is leads =
-    subst (λ i. Works s (get_index r.object i >>= array_after (array.ReverseUpper r low)) t a) is leads
+    → RefinesAlgorithm s (get_index r.object upper >>= array_after (array.ReverseUpper r low)) t a
+    → RefinesAlgorithm s (array_after (array.ReverseLower r) low) t a
+gets_upper s t a r low upper is refines =
+    subst (λ i. RefinesAlgorithm s (get_index r.object i >>= array_after (array.ReverseUpper r low)) t a) is refines
 
 -- the turn after this one, once the upper index has got its element, or lost it
 
@@ -144,23 +154,25 @@ module _ (s t : State) (a : Act) (r : Reversing) where
 
   pub puts_above : (low : Value) (upper : ℕ) (after : ArrayProgress) → upper ≡ upper_of r
       → array_after after value.Undefined ≡ reverse_others r r.left (r.lower + 1)
-      → Works s (put_index r.object upper low >>= λ _. array_after after value.Undefined) t a
-      → Works s (put_index r.object (upper_of r) low >>= λ _. reverse_others r r.left (r.lower + 1)) t a
-  puts_above low upper after is turn leads =
-      subst (λ i. Works s (put_index r.object i low >>= next_turns) t a) is
-      (subst (λ p. Works s (put_index r.object upper low >>= λ _. p) t a) turn leads)
+      → RefinesAlgorithm s (put_index r.object upper low >>= λ _. array_after after value.Undefined) t a
+      → RefinesAlgorithm s (put_index r.object (upper_of r) low >>= λ _. reverse_others r r.left (r.lower + 1)) t a
+  puts_above low upper after is turn refines =
+      subst (λ i. RefinesAlgorithm s (put_index r.object i low >>= next_turns) t a) is
+      (subst (λ p. RefinesAlgorithm s (put_index r.object upper low >>= λ _. p) t a) turn refines)
 
   pub puts_exchanged : (kept : Option Value) (low : Value) → kept ≡ Some low
-      → Works s (put_index r.object (upper_of r) low >>= λ _. reverse_others r r.left (r.lower + 1)) t a
-      → Works s (array_after (array.ReverseExchange r kept) value.Undefined) t a
-  puts_exchanged kept low is leads =
-      subst (λ (l : Option Value). Works s (array_after (array.ReverseExchange r l) value.Undefined) t a) (sym is) leads
+      → RefinesAlgorithm s (put_index r.object (upper_of r) low >>= λ _. reverse_others r r.left (r.lower + 1)) t a
+      → RefinesAlgorithm s (array_after (array.ReverseExchange r kept) value.Undefined) t a
+  puts_exchanged kept low is refines =
+      subst (λ (l : Option Value). RefinesAlgorithm s (array_after (array.ReverseExchange r l) value.Undefined) t a)
+      (sym is) refines
 
   pub deletes_exchanged : (kept : Option Value) (upper : ℕ) (after : ArrayProgress) → kept ≡ None
       → upper ≡ upper_of r → array_after after value.Undefined ≡ reverse_others r r.left (r.lower + 1)
-      → Works s (delete_index r.object upper >>= λ _. array_after after value.Undefined) t a
-      → Works s (array_after (array.ReverseExchange r kept) value.Undefined) t a
-  deletes_exchanged kept upper after none is turn leads =
-      subst (λ (l : Option Value). Works s (array_after (array.ReverseExchange r l) value.Undefined) t a) (sym none)
-      (subst (λ i. Works s (delete_index r.object i >>= next_turns) t a) is
-      (subst (λ p. Works s (delete_index r.object upper >>= λ _. p) t a) turn leads))
+      → RefinesAlgorithm s (delete_index r.object upper >>= λ _. array_after after value.Undefined) t a
+      → RefinesAlgorithm s (array_after (array.ReverseExchange r kept) value.Undefined) t a
+  deletes_exchanged kept upper after none is turn refines =
+      subst (λ (l : Option Value). RefinesAlgorithm s (array_after (array.ReverseExchange r l) value.Undefined) t a)
+      (sym none)
+      (subst (λ i. RefinesAlgorithm s (delete_index r.object i >>= next_turns) t a) is
+      (subst (λ p. RefinesAlgorithm s (delete_index r.object upper >>= λ _. p) t a) turn refines))

@@ -24,7 +24,7 @@ use Rattle.jl_progress.specs.Arrays.{array_after, join_first, join_others, with_
 use Rattle.jl_progress.specs.declared.array.ArrayProgress.TheVariants as array
 use Rattle.jl_progress.specs.declared.array.Joining.{Joining}
 use Rattle.jl_progress.specs.declared.array.LengthFunction.TheVariants as for_length
-use Rattle.jl_state.specs.Rest.{Works}
+use Rattle.jl_state.specs.Rest.{RefinesAlgorithm}
 use Rattle.jl_state.specs.Steps.{RanOut, Took}
 use Rattle.jl_state.specs.declared.act.Act.{Act}
 use Rattle.jl_state.specs.declared.act.Act.TheVariants as act
@@ -87,35 +87,35 @@ module _ (o : ObjId) (separator : List ℕ) where
       (λ y. string_within y >>= give_string)))
 
 pub joins_first : (s t : State) (a : Act) (j : Joining) (first line empty units : List ℕ) → empty ≡ []
-    → units ≡ first → line ≡ empty ++ units → length first ≤ 1048576 → Works s (join_others j line) t a
-    → Works s (join_first j first) t a
-joins_first s t a j first line empty units none same is short leads =
-    subst (λ p. Works s p t a)
+    → units ≡ first → line ≡ empty ++ units → length first ≤ 1048576 → RefinesAlgorithm s (join_others j line) t a
+    → RefinesAlgorithm s (join_first j first) t a
+joins_first s t a j first line empty units none same is short refines =
+    subst (λ p. RefinesAlgorithm s p t a)
     (sym (stays_within j.object j.separator j.left j.k first (le-ltb string_limit (length first) short)))
-    (subst (λ l. Works s (join_others j l) t a) (is ∙ ap (λ (l : List ℕ). l ++ units) none ∙ same) leads)
+    (subst (λ l. RefinesAlgorithm s (join_others j l) t a) (is ∙ ap (λ (l : List ℕ). l ++ units) none ∙ same) refines)
 
 -- the first element is got, if there is one
 
 pub joins_none : (s : State) (o : ObjId) (n : ℕ) (separator empty : List ℕ) → n ≡ 0 → empty ≡ codes ""
-    → Works s (join_elements o n separator) s (act.Give (value.Text empty))
+    → RefinesAlgorithm s (join_elements o n separator) s (act.Give (value.Text empty))
 joins_none s o n separator empty none is =
-    subst (λ (m : ℕ). Works s (join_elements o m separator) s (act.Give (value.Text empty))) (sym none)
-    (subst (λ x. Works s (join_elements o 0 separator) s (act.Give (value.Text x))) (sym is)
+    subst (λ (m : ℕ). RefinesAlgorithm s (join_elements o m separator) s (act.Give (value.Text empty))) (sym none)
+    (subst (λ x. RefinesAlgorithm s (join_elements o 0 separator) s (act.Give (value.Text x))) (sym is)
     (record { is = λ kept told. refl }))
 
 pub joins_some : (s t : State) (a : Act) (o : ObjId) (n : ℕ) (separator : List ℕ) → (n ≡ 0 → ⊥)
-    → Works s (get_index o 0 >>= array_after (array.JoinFirst (record {
+    → RefinesAlgorithm s (get_index o 0 >>= array_after (array.JoinFirst (record {
       object = o;
       separator = separator;
       left = n - 1;
       k = 1;
     }))) t a
-    → Works s (join_elements o n separator) t a
-joins_some s t a o n separator some leads =
-    subst (λ (m : ℕ). Works s (join_elements o m separator) t a) (one_more n some)
-    (subst (λ p. Works s p t a)
+    → RefinesAlgorithm s (join_elements o n separator) t a
+joins_some s t a o n separator some refines =
+    subst (λ (m : ℕ). RefinesAlgorithm s (join_elements o m separator) t a) (one_more n some)
+    (subst (λ p. RefinesAlgorithm s p t a)
     (sym (bind_assoc (get_index o 0) string_or_empty
-    (λ first. upward (join_turn o separator) (n - 1) 1 first >>= give_string))) leads)
+    (λ first. upward (join_turn o separator) (n - 1) 1 first >>= give_string))) refines)
 
 -- whether a string after a line is short enough
 not_over : (b : Bool) → not b ≡ true → b ≡ false
@@ -140,16 +140,17 @@ module _ (line next : List ℕ) (n m : ℕ) (room : Bool) (before : n ≡ length
 
   -- there is room for it
   pub has_room : (s t : State) (a : Act) (k : List ℕ → Algorithm Value) (longer : List ℕ) → room ≡ true
-      → longer ≡ line ++ next → Works s (k longer) t a → Works s (string_within (line ++ next) >>= k) t a
-  has_room s t a k longer there same leads =
-      subst (λ p. Works s p t a) (within_gives (line ++ next) k (fits there))
-      (subst (λ l. Works s (k l) t a) same leads)
+      → longer ≡ line ++ next → RefinesAlgorithm s (k longer) t a
+      → RefinesAlgorithm s (string_within (line ++ next) >>= k) t a
+  has_room s t a k longer there same refines =
+      subst (λ p. RefinesAlgorithm s p t a) (within_gives (line ++ next) k (fits there))
+      (subst (λ l. RefinesAlgorithm s (k l) t a) same refines)
 
   -- or there is none
   pub no_room : (s : State) (k : List ℕ → Algorithm Value) → room ≡ false
-      → Works s (string_within (line ++ next) >>= k) s (act.Fault fault.StringTooLong)
+      → RefinesAlgorithm s (string_within (line ++ next) >>= k) s (act.Fault fault.StringTooLong)
   no_room s k none =
-      subst (λ b. Works s ((if b then Fail StringTooLong else give (line ++ next)) >>= k) s
+      subst (λ b. RefinesAlgorithm s ((if b then Fail StringTooLong else give (line ++ next)) >>= k) s
       (act.Fault fault.StringTooLong)) (sym over) (record { is = λ kept told. refl })
     where
       over : nat_lt string_limit (length (line ++ next)) ≡ true
@@ -165,20 +166,20 @@ module _ (j : Joining) (i : ℕ) (line units : List ℕ) (n m : ℕ) (room : Boo
   rest_of_turn x = element_string j.object i >>= λ y. string_within (x ++ y) >>= join_others j
 
   pub joins_one : (s t : State) (a : Act) (longer : List ℕ) → room ≡ true → longer ≡ line ++ units
-      → Works s (get_index j.object i >>= array_after (array.JoinElement j longer)) t a
-      → Works s (join_turn j.object j.separator i line >>= join_others j) t a
-  joins_one s t a longer there same leads =
-      subst (λ p. Works s p t a) (sym (apart j.object j.separator i line (join_others j)))
+      → RefinesAlgorithm s (get_index j.object i >>= array_after (array.JoinElement j longer)) t a
+      → RefinesAlgorithm s (join_turn j.object j.separator i line >>= join_others j) t a
+  joins_one s t a longer there same refines =
+      subst (λ p. RefinesAlgorithm s p t a) (sym (apart j.object j.separator i line (join_others j)))
       (has_room line j.separator n m room before more is s t a rest_of_turn longer there
       (same ∙ ap (λ (l : List ℕ). line ++ l) are)
-      (subst (λ p. Works s p t a)
+      (subst (λ p. RefinesAlgorithm s p t a)
       (sym (bind_assoc (get_index j.object i) string_or_empty (λ y. string_within (longer ++ y) >>= join_others j)))
-      leads))
+      refines))
 
   pub joins_none_more : (s : State) → room ≡ false
-      → Works s (join_turn j.object j.separator i line >>= join_others j) s (act.Fault fault.StringTooLong)
+      → RefinesAlgorithm s (join_turn j.object j.separator i line >>= join_others j) s (act.Fault fault.StringTooLong)
   joins_none_more s none =
-      subst (λ p. Works s p s (act.Fault fault.StringTooLong))
+      subst (λ p. RefinesAlgorithm s p s (act.Fault fault.StringTooLong))
       (sym (apart j.object j.separator i line (join_others j)))
       (no_room line j.separator n m room before more is s rest_of_turn none)
 
@@ -195,15 +196,16 @@ nothing v k none = ap (λ b. (if b then give [] else to_string v) >>= k) (sym no
 -- an element that is nothing, or is converted
 
 pub next_nothing : (s t : State) (a : Act) (v : Value) (k : List ℕ → Algorithm Value) (empty : List ℕ)
-    → is_nothing v ≡ true → empty ≡ [] → Works s (k empty) t a → Works s (string_or_empty v >>= k) t a
-next_nothing s t a v k empty none is leads =
-    subst (λ p. Works s p t a) (nothing v k none) (subst (λ x. Works s (k x) t a) is leads)
+    → is_nothing v ≡ true → empty ≡ [] → RefinesAlgorithm s (k empty) t a
+    → RefinesAlgorithm s (string_or_empty v >>= k) t a
+next_nothing s t a v k empty none is refines =
+    subst (λ p. RefinesAlgorithm s p t a) (nothing v k none) (subst (λ x. RefinesAlgorithm s (k x) t a) is refines)
 
 pub next_converts : (s t : State) (a : Act) (v : Value) (k : List ℕ → Algorithm Value) → is_nothing v ≡ false
-    → Works s (to_primitive string_hint v >>= λ p. k (text_of_value p)) t a
-    → Works s (string_or_empty v >>= k) t a
-next_converts s t a v k there leads =
-    subst (λ p. Works s p t a) (string_converts v k ∙ something v k there) leads
+    → RefinesAlgorithm s (to_primitive string_hint v >>= λ p. k (text_of_value p)) t a
+    → RefinesAlgorithm s (string_or_empty v >>= k) t a
+next_converts s t a v k there refines =
+    subst (λ p. RefinesAlgorithm s p t a) (string_converts v k ∙ something v k there) refines
 
 -- the separator
 
@@ -228,19 +230,20 @@ separator_there (value.Obj id) k e = refl
 module _ (s t : State) (a : Act) (o : ObjId) (args : List Value) (length : ℕ) (v : Value)
     (is : v ≡ slice_index_or args 0 value.Undefined) where
   pub joins_by_comma : (comma : List ℕ) → is_undefined v ≡ true → comma ≡ codes ","
-      → Works s (join_elements o length comma) t a → Works s (with_length for_length.Join o args length) t a
-  joins_by_comma comma none same leads =
-      subst (λ w. Works s (separator_of w >>= join_elements o length) t a) is
-      (subst (λ p. Works s p t a) (separator_missing v (join_elements o length) none)
-      (subst (λ x. Works s (join_elements o length x) t a) same leads))
+      → RefinesAlgorithm s (join_elements o length comma) t a
+      → RefinesAlgorithm s (with_length for_length.Join o args length) t a
+  joins_by_comma comma none same refines =
+      subst (λ w. RefinesAlgorithm s (separator_of w >>= join_elements o length) t a) is
+      (subst (λ p. RefinesAlgorithm s p t a) (separator_missing v (join_elements o length) none)
+      (subst (λ x. RefinesAlgorithm s (join_elements o length x) t a) same refines))
 
   pub joins_by : is_undefined v ≡ false
-      → Works s (to_primitive string_hint v >>= array_after (array.JoinSeparator o length)) t a
-      → Works s (with_length for_length.Join o args length) t a
-  joins_by there leads =
-      subst (λ w. Works s (separator_of w >>= join_elements o length) t a) is
-      (subst (λ p. Works s p t a)
-      (string_converts v (join_elements o length) ∙ separator_there v (join_elements o length) there) leads)
+      → RefinesAlgorithm s (to_primitive string_hint v >>= array_after (array.JoinSeparator o length)) t a
+      → RefinesAlgorithm s (with_length for_length.Join o args length) t a
+  joins_by there refines =
+      subst (λ w. RefinesAlgorithm s (separator_of w >>= join_elements o length) t a) is
+      (subst (λ p. RefinesAlgorithm s p t a)
+      (string_converts v (join_elements o length) ∙ separator_there v (join_elements o length) there) refines)
 
 -- turns in which an element is joined
 
@@ -249,19 +252,20 @@ module _ (s u : State) (j : Joining) (line : List ℕ) where
   turns x = string_within x >>= give_string
 
   pub joins_end : (a : Act) (units : List ℕ) → j.left ≡ 0 → units ≡ line
-      → Works s (string_within units >>= give_string) u a → Works s (join_others j line) u a
-  joins_end a units none same leads =
+      → RefinesAlgorithm s (string_within units >>= give_string) u a → RefinesAlgorithm s (join_others j line) u a
+  joins_end a units none same refines =
       upward_ends s u a (join_turn j.object j.separator) turns j.left j.k line none
-      (subst (λ l. Works s (turns l) u a) same leads)
+      (subst (λ l. RefinesAlgorithm s (turns l) u a) same refines)
 
-  pub joins_spent : (j.left ≡ 0 → ⊥) → u ≡ s → RanOut s → Works s (join_others j line) u act.Spent
+  pub joins_spent : (j.left ≡ 0 → ⊥) → u ≡ s → RanOut s → RefinesAlgorithm s (join_others j line) u act.Spent
   joins_spent some same spent =
       upward_spent s u act.Spent (join_turn j.object j.separator) turns j.left j.k line some same spent
 
   pub joins_take : (a : Act) (t : State) (k : ℕ) → (j.left ≡ 0 → ⊥) → Took s t → k ≡ j.k + 1
-      → Works t (join_turn j.object j.separator j.k line >>= join_others (record j { left = j.left - 1; k = k })) u a
-      → Works s (join_others j line) u a
-  joins_take a t k some took more leads =
+      → RefinesAlgorithm t (join_turn j.object j.separator j.k line >>= join_others
+      (record j { left = j.left - 1; k = k })) u a
+      → RefinesAlgorithm s (join_others j line) u a
+  joins_take a t k some took more refines =
       upward_takes s u a (join_turn j.object j.separator) turns t j.left j.k line some took
-      (subst (λ i. Works t (join_turn j.object j.separator j.k line
-      >>= join_others (record j { left = j.left - 1; k = i })) u a) more leads)
+      (subst (λ i. RefinesAlgorithm t (join_turn j.object j.separator j.k line
+      >>= join_others (record j { left = j.left - 1; k = i })) u a) more refines)

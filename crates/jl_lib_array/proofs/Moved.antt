@@ -23,7 +23,7 @@ use Rattle.jl_progress.specs.declared.array.ArrayProgress.TheVariants as array
 use Rattle.jl_progress.specs.declared.array.LengthFunction.TheVariants as for_length
 use Rattle.jl_progress.specs.declared.array.Moving.{Moving}
 use Rattle.jl_progress.specs.declared.array.Splicing.{Splicing}
-use Rattle.jl_state.specs.Rest.{Works}
+use Rattle.jl_state.specs.Rest.{RefinesAlgorithm}
 use Rattle.jl_state.specs.Steps.{RanOut, Took}
 use Rattle.jl_state.specs.declared.act.Act.{Act}
 use Rattle.jl_state.specs.declared.act.Act.TheVariants as act
@@ -37,21 +37,23 @@ use Rattle.jl_lib_array.proofs.Turns.{upward_takes}
 
 -- pop and shift of what has elements, and of what has none
 
-pub pops_none : (s t : State) (a : Act) (o : ObjId) (n : ℕ) → n ≡ 0 → Works s (give_nothing o) t a
-    → Works s (pop_last o n) t a
-pops_none s t a o n none leads = subst (λ m. Works s (pop_last o m) t a) (sym none) leads
+pub pops_none : (s t : State) (a : Act) (o : ObjId) (n : ℕ) → n ≡ 0 → RefinesAlgorithm s (give_nothing o) t a
+    → RefinesAlgorithm s (pop_last o n) t a
+pops_none s t a o n none refines = subst (λ m. RefinesAlgorithm s (pop_last o m) t a) (sym none) refines
 
 pub pops_some : (s t : State) (a : Act) (o : ObjId) (n : ℕ) → (n ≡ 0 → ⊥)
-    → Works s (get_index o (n - 1) >>= array_after (array.PopElement o (n - 1))) t a → Works s (pop_last o n) t a
-pops_some s t a o n some leads = subst (λ m. Works s (pop_last o m) t a) (one_more n some) leads
+    → RefinesAlgorithm s (get_index o (n - 1) >>= array_after (array.PopElement o (n - 1))) t a
+    → RefinesAlgorithm s (pop_last o n) t a
+pops_some s t a o n some refines = subst (λ m. RefinesAlgorithm s (pop_last o m) t a) (one_more n some) refines
 
-pub shifts_none : (s t : State) (a : Act) (o : ObjId) (n : ℕ) → n ≡ 0 → Works s (give_nothing o) t a
-    → Works s (shift_first o n) t a
-shifts_none s t a o n none leads = subst (λ m. Works s (shift_first o m) t a) (sym none) leads
+pub shifts_none : (s t : State) (a : Act) (o : ObjId) (n : ℕ) → n ≡ 0 → RefinesAlgorithm s (give_nothing o) t a
+    → RefinesAlgorithm s (shift_first o n) t a
+shifts_none s t a o n none refines = subst (λ m. RefinesAlgorithm s (shift_first o m) t a) (sym none) refines
 
 pub shifts_some : (s t : State) (a : Act) (o : ObjId) (n : ℕ) → (n ≡ 0 → ⊥)
-    → Works s (get_index o 0 >>= array_after (array.ShiftFirst o (n - 1))) t a → Works s (shift_first o n) t a
-shifts_some s t a o n some leads = subst (λ m. Works s (shift_first o m) t a) (one_more n some) leads
+    → RefinesAlgorithm s (get_index o 0 >>= array_after (array.ShiftFirst o (n - 1))) t a
+    → RefinesAlgorithm s (shift_first o n) t a
+shifts_some s t a o n some refines = subst (λ m. RefinesAlgorithm s (shift_first o m) t a) (one_more n some) refines
 
 -- each element but the first goes to the index before
 
@@ -68,11 +70,12 @@ closer o (suc left) k =
     ∙ ap (λ (p : Algorithm (Unit {0})). Step (move_element o (k + 1) (k + 1 - 1) >>= λ _. p)) (closer o left (k + 1))
 
 pub shifts : (s t : State) (a : Act) (o : ObjId) (last : ℕ) (first : Value)
-    → Works s (move_up (record { object = o; from = 1; to = 0; left = last }) last 0
+    → RefinesAlgorithm s (move_up (record { object = o; from = 1; to = 0; left = last }) last 0
     >>= λ _. without_last o last first) t a
-    → Works s (array_after (array.ShiftFirst o last) first) t a
-shifts s t a o last first leads =
-    subst (λ (p : Algorithm (Unit {0})). Works s (p >>= λ _. without_last o last first) t a) (closer o last 0) leads
+    → RefinesAlgorithm s (array_after (array.ShiftFirst o last) first) t a
+shifts s t a o last first refines =
+    subst (λ (p : Algorithm (Unit {0})). RefinesAlgorithm s (p >>= λ _. without_last o last first) t a)
+    (closer o last 0) refines
 
 -- unshift: each element goes up by as many as come
 
@@ -92,16 +95,17 @@ added o n left =
 
 pub unshifts : (s t : State) (a : Act) (o : ObjId) (args : List Value) (len n m : ℕ) → n ≡ length args
     → m ≡ len + n
-    → Works s (move_down (record { object = o; from = 0; to = n; left = len }) len
+    → RefinesAlgorithm s (move_down (record { object = o; from = 0; to = n; left = len }) len
     >>= λ _. put_others o 0 args (put.Unshift m)) t a
-    → Works s (with_length for_length.Unshift o args len) t a
-unshifts s t a o args len n m as_many sum leads =
-    subst (λ (p : Algorithm (Unit {0})). Works s (p >>= λ _. put_others o 0 args (put.Unshift (len + length args))) t a)
+    → RefinesAlgorithm s (with_length for_length.Unshift o args len) t a
+unshifts s t a o args len n m as_many sum refines =
+    subst (λ (p : Algorithm (Unit {0})). RefinesAlgorithm s
+    (p >>= λ _. put_others o 0 args (put.Unshift (len + length args))) t a)
     (added o (length args) len)
-    (subst (λ i. Works s (downward (λ k _. move_element o (0 + k) (i + k)) len tt
+    (subst (λ i. RefinesAlgorithm s (downward (λ k _. move_element o (0 + k) (i + k)) len tt
     >>= λ _. put_others o 0 args (put.Unshift (len + i))) t a) as_many
-    (subst (λ i. Works s (downward (λ k _. move_element o (0 + k) (n + k)) len tt
-    >>= λ _. put_others o 0 args (put.Unshift i)) t a) sum leads))
+    (subst (λ i. RefinesAlgorithm s (downward (λ k _. move_element o (0 + k) (n + k)) len tt
+    >>= λ _. put_others o 0 args (put.Unshift i)) t a) sum refines))
 
 -- splice: room is made, or a gap closed
 
@@ -112,46 +116,49 @@ module _ (s t : State) (a : Act) (x : Splicing) (n : ℕ) (as_many : n ≡ lengt
   abbrev opening : Algorithm (Unit {0})
   opening = open_gap x
 
-  pub splice_closes : n < x.removed → Works s (close_gap x >>= λ _. put_items x) t a → Works s (splice_others x) t a
-  splice_closes fewer leads =
-      subst (λ (b : Bool). Works s ((if b then closing
+  pub splice_closes : n < x.removed → RefinesAlgorithm s (close_gap x >>= λ _. put_items x) t a
+      → RefinesAlgorithm s (splice_others x) t a
+  splice_closes fewer refines =
+      subst (λ (b : Bool). RefinesAlgorithm s ((if b then closing
       else (if nat_lt x.removed (length x.items) then opening else give tt)) >>= λ _. put_items x) t a)
-      (sym (lt-ltb (length x.items) x.removed (subst (λ m. m < x.removed) as_many fewer))) leads
+      (sym (lt-ltb (length x.items) x.removed (subst (λ m. m < x.removed) as_many fewer))) refines
 
-  pub splice_opens : x.removed ≤ n → x.removed < n → Works s (open_gap x >>= λ _. put_items x) t a
-      → Works s (splice_others x) t a
-  splice_opens no_fewer more leads =
-      subst (λ (b : Bool). Works s ((if b then closing
+  pub splice_opens : x.removed ≤ n → x.removed < n → RefinesAlgorithm s (open_gap x >>= λ _. put_items x) t a
+      → RefinesAlgorithm s (splice_others x) t a
+  splice_opens no_fewer more refines =
+      subst (λ (b : Bool). RefinesAlgorithm s ((if b then closing
       else (if nat_lt x.removed (length x.items) then opening else give tt)) >>= λ _. put_items x) t a)
       (sym (le-ltb (length x.items) x.removed (subst (λ m. x.removed ≤ m) as_many no_fewer)))
-      (subst (λ (b : Bool). Works s ((if b then opening else give tt) >>= λ _. put_items x) t a)
-      (sym (lt-ltb x.removed (length x.items) (subst (λ m. x.removed < m) as_many more))) leads)
+      (subst (λ (b : Bool). RefinesAlgorithm s ((if b then opening else give tt) >>= λ _. put_items x) t a)
+      (sym (lt-ltb x.removed (length x.items) (subst (λ m. x.removed < m) as_many more))) refines)
 
-  pub splice_stays : x.removed ≤ n → n ≤ x.removed → Works s (put_items x) t a → Works s (splice_others x) t a
-  splice_stays no_fewer no_more leads =
-      subst (λ (b : Bool). Works s ((if b then closing
+  pub splice_stays : x.removed ≤ n → n ≤ x.removed → RefinesAlgorithm s (put_items x) t a
+      → RefinesAlgorithm s (splice_others x) t a
+  splice_stays no_fewer no_more refines =
+      subst (λ (b : Bool). RefinesAlgorithm s ((if b then closing
       else (if nat_lt x.removed (length x.items) then opening else give tt)) >>= λ _. put_items x) t a)
       (sym (le-ltb (length x.items) x.removed (subst (λ m. x.removed ≤ m) as_many no_fewer)))
-      (subst (λ (b : Bool). Works s ((if b then opening else give tt) >>= λ _. put_items x) t a)
-      (sym (le-ltb x.removed (length x.items) (subst (λ m. m ≤ x.removed) as_many no_more))) leads)
+      (subst (λ (b : Bool). RefinesAlgorithm s ((if b then opening else give tt) >>= λ _. put_items x) t a)
+      (sym (le-ltb x.removed (length x.items) (subst (λ m. m ≤ x.removed) as_many no_more))) refines)
 
 -- the gap is closed from the first element after it up, and opened from the last one down
 
 pub closes : (s t : State) (a : Act) (x : Splicing) (n left : ℕ) → n ≡ length x.items
     → left ≡ x.length - x.removed - x.start
-    → Works s (move_up (record { object = x.object; from = x.removed; to = n; left = left }) left x.start
+    → RefinesAlgorithm s (move_up (record { object = x.object; from = x.removed; to = n; left = left }) left x.start
     >>= λ _. after_moving x.object (moved.Delete x)) t a
-    → Works s (close_gap x >>= λ _. put_items x) t a
-closes s t a x n left as_many as_left leads =
+    → RefinesAlgorithm s (close_gap x >>= λ _. put_items x) t a
+closes s t a x n left as_many as_left refines =
     works_assoc s
     (upward (λ k _. move_element x.object (k + x.removed) (k + length x.items)) (x.length - x.removed - x.start)
     x.start tt)
     (λ _. downward (λ k _. delete_index x.object (length_spliced x + k)) (x.removed - length x.items) tt)
     (λ _. put_items x) t a
-    (subst (λ l. Works s (upward (λ k _. move_element x.object (k + x.removed) (k + length x.items)) l x.start tt
+    (subst (λ l. RefinesAlgorithm s (upward
+    (λ k _. move_element x.object (k + x.removed) (k + length x.items)) l x.start tt
     >>= λ _. after_moving x.object (moved.Delete x)) t a) as_left
-    (subst (λ m. Works s (upward (λ k _. move_element x.object (k + x.removed) (k + m)) left x.start tt
-    >>= λ _. after_moving x.object (moved.Delete x)) t a) as_many leads))
+    (subst (λ m. RefinesAlgorithm s (upward (λ k _. move_element x.object (k + x.removed) (k + m)) left x.start tt
+    >>= λ _. after_moving x.object (moved.Delete x)) t a) as_many refines))
 
 within : (start n k : ℕ) → start + n + k ≡ start + k + n
 within start n k = omega arith
@@ -170,15 +177,15 @@ above o start removed n left =
 
 pub opens : (s t : State) (a : Act) (x : Splicing) (from to left : ℕ) → from ≡ x.start + x.removed
     → to ≡ x.start + length x.items → left ≡ x.length - x.removed - x.start
-    → Works s (move_down (record { object = x.object; from = from; to = to; left = left }) left
+    → RefinesAlgorithm s (move_down (record { object = x.object; from = from; to = to; left = left }) left
     >>= λ _. put_items x) t a
-    → Works s (open_gap x >>= λ _. put_items x) t a
-opens s t a x from to left is_from is_to as_left leads =
-    subst (λ (p : Algorithm (Unit {0})). Works s (p >>= λ _. put_items x) t a)
+    → RefinesAlgorithm s (open_gap x >>= λ _. put_items x) t a
+opens s t a x from to left is_from is_to as_left refines =
+    subst (λ (p : Algorithm (Unit {0})). RefinesAlgorithm s (p >>= λ _. put_items x) t a)
     (above x.object x.start x.removed (length x.items) (x.length - x.removed - x.start))
-    (subst (λ l. Works s (turns (x.start + x.removed) (x.start + length x.items) l) t a) as_left
-    (subst (λ i. Works s (turns (x.start + x.removed) i left) t a) is_to
-    (subst (λ i. Works s (turns i to left) t a) is_from leads)))
+    (subst (λ l. RefinesAlgorithm s (turns (x.start + x.removed) (x.start + length x.items) l) t a) as_left
+    (subst (λ i. RefinesAlgorithm s (turns (x.start + x.removed) i left) t a) is_to
+    (subst (λ i. RefinesAlgorithm s (turns i to left) t a) is_from refines)))
   where
     turns : ℕ → ℕ → ℕ → Algorithm Value
     turns i j l = downward (λ k _. move_element x.object (i + k) (j + k)) l tt >>= λ _. put_items x
@@ -201,101 +208,106 @@ module _ (s u : State) (a : Act) (m : Moving) (next : AfterMoving) where
   abbrev others_down : (left : ℕ) → Algorithm Value
   others_down left = move_down m left >>= then_next
 
-  pub moves_up_end : (k : ℕ) → m.left ≡ 0 → Works s (after_moving m.object next) u a → Works s (others_up m.left k) u a
-  moves_up_end k none leads = upward_ends s u a turn_up then_next m.left k tt none leads
+  pub moves_up_end : (k : ℕ) → m.left ≡ 0 → RefinesAlgorithm s (after_moving m.object next) u a
+      → RefinesAlgorithm s (others_up m.left k) u a
+  moves_up_end k none refines = upward_ends s u a turn_up then_next m.left k tt none refines
 
-  pub moves_up_spent : (k : ℕ) → (m.left ≡ 0 → ⊥) → u ≡ s → RanOut s → Works s (others_up m.left k) u act.Spent
+  pub moves_up_spent : (k : ℕ) → (m.left ≡ 0 → ⊥) → u ≡ s → RanOut s
+      → RefinesAlgorithm s (others_up m.left k) u act.Spent
   moves_up_spent k some same spent = upward_spent s u a turn_up then_next m.left k tt some same spent
 
   pub moves_up_take : (t : State) (k : ℕ) → (m.left ≡ 0 → ⊥) → Took s t
-      → Works t (move_element m.object (k + m.from) (k + m.to) >>= λ _. others_up (m.left - 1) (k + 1)) u a
-      → Works s (others_up m.left k) u a
-  moves_up_take t k some took leads = upward_takes s u a turn_up then_next t m.left k tt some took leads
+      → RefinesAlgorithm t (move_element m.object (k + m.from) (k + m.to) >>= λ _. others_up (m.left - 1) (k + 1)) u a
+      → RefinesAlgorithm s (others_up m.left k) u a
+  moves_up_take t k some took refines = upward_takes s u a turn_up then_next t m.left k tt some took refines
 
-  pub moves_down_end : m.left ≡ 0 → Works s (after_moving m.object next) u a → Works s (others_down m.left) u a
-  moves_down_end none leads = downward_ends s u a turn_down then_next m.left tt none leads
+  pub moves_down_end : m.left ≡ 0 → RefinesAlgorithm s (after_moving m.object next) u a
+      → RefinesAlgorithm s (others_down m.left) u a
+  moves_down_end none refines = downward_ends s u a turn_down then_next m.left tt none refines
 
-  pub moves_down_spent : (m.left ≡ 0 → ⊥) → u ≡ s → RanOut s → Works s (others_down m.left) u act.Spent
+  pub moves_down_spent : (m.left ≡ 0 → ⊥) → u ≡ s → RanOut s → RefinesAlgorithm s (others_down m.left) u act.Spent
   moves_down_spent some same spent = downward_spent s u a turn_down then_next m.left tt some same spent
 
   pub moves_down_take : (t : State) → (m.left ≡ 0 → ⊥) → Took s t
-      → Works t (move_element m.object (m.from + (m.left - 1)) (m.to + (m.left - 1)) >>= λ _. others_down (m.left - 1))
+      → RefinesAlgorithm t (move_element m.object (m.from + (m.left - 1)) (m.to + (m.left - 1)) >>= λ _. others_down
+      (m.left - 1))
       u a
-      → Works s (others_down m.left) u a
-  moves_down_take t some took leads = downward_takes s u a turn_down then_next t m.left tt some took leads
+      → RefinesAlgorithm s (others_down m.left) u a
+  moves_down_take t some took refines = downward_takes s u a turn_down then_next t m.left tt some took refines
 
   -- an element that is there is got, and then put
 
   pub moves_up_there : (k i : ℕ) (b : Bool) → i ≡ k + m.from → b ≡ has_index s.store m.object i → b ≡ true
-      → Works s (get_index m.object i >>= array_after (array.MoveUpElement m k next)) u a
-      → Works s (move_element m.object (k + m.from) (k + m.to) >>= λ _. others_up m.left (k + 1)) u a
-  moves_up_there k i b is found there leads =
-      subst (λ j. Works s (move_element m.object j (k + m.to) >>= λ _. others_up m.left (k + 1)) u a) is
+      → RefinesAlgorithm s (get_index m.object i >>= array_after (array.MoveUpElement m k next)) u a
+      → RefinesAlgorithm s (move_element m.object (k + m.from) (k + m.to) >>= λ _. others_up m.left (k + 1)) u a
+  moves_up_there k i b is found there refines =
+      subst (λ j. RefinesAlgorithm s (move_element m.object j (k + m.to) >>= λ _. others_up m.left (k + 1)) u a) is
       (element_there s u a m.object i (put_or_delete m.object (k + m.to)) (λ _. others_up m.left (k + 1)) b found there
-      leads)
+      refines)
 
   pub moves_up_element : (k to after : ℕ) (v : Value) → to ≡ k + m.to → after ≡ k + 1
-      → Works s (put_index m.object to v >>= λ _. others_up m.left after) u a
-      → Works s (array_after (array.MoveUpElement m k next) v) u a
-  moves_up_element k to after v is more leads =
-      subst (λ j. Works s (put_index m.object j v >>= λ _. others_up m.left (k + 1)) u a) is
-      (subst (λ j. Works s (put_index m.object to v >>= λ _. others_up m.left j) u a) more leads)
+      → RefinesAlgorithm s (put_index m.object to v >>= λ _. others_up m.left after) u a
+      → RefinesAlgorithm s (array_after (array.MoveUpElement m k next) v) u a
+  moves_up_element k to after v is more refines =
+      subst (λ j. RefinesAlgorithm s (put_index m.object j v >>= λ _. others_up m.left (k + 1)) u a) is
+      (subst (λ j. RefinesAlgorithm s (put_index m.object to v >>= λ _. others_up m.left j) u a) more refines)
 
   pub moves_down_there : (i : ℕ) (b : Bool) → i ≡ m.from + m.left → b ≡ has_index s.store m.object i → b ≡ true
-      → Works s (get_index m.object i >>= array_after (array.MoveDownElement m next)) u a
-      → Works s (move_element m.object (m.from + m.left) (m.to + m.left) >>= λ _. others_down m.left) u a
-  moves_down_there i b is found there leads =
-      subst (λ j. Works s (move_element m.object j (m.to + m.left) >>= λ _. others_down m.left) u a) is
+      → RefinesAlgorithm s (get_index m.object i >>= array_after (array.MoveDownElement m next)) u a
+      → RefinesAlgorithm s (move_element m.object (m.from + m.left) (m.to + m.left) >>= λ _. others_down m.left) u a
+  moves_down_there i b is found there refines =
+      subst (λ j. RefinesAlgorithm s (move_element m.object j (m.to + m.left) >>= λ _. others_down m.left) u a) is
       (element_there s u a m.object i (put_or_delete m.object (m.to + m.left)) (λ _. others_down m.left) b found there
-      leads)
+      refines)
 
   pub moves_down_element : (to : ℕ) (v : Value) → to ≡ m.to + m.left
-      → Works s (put_index m.object to v >>= λ _. others_down m.left) u a
-      → Works s (array_after (array.MoveDownElement m next) v) u a
-  moves_down_element to v is leads =
-      subst (λ j. Works s (put_index m.object j v >>= λ _. others_down m.left) u a) is leads
+      → RefinesAlgorithm s (put_index m.object to v >>= λ _. others_down m.left) u a
+      → RefinesAlgorithm s (array_after (array.MoveDownElement m next) v) u a
+  moves_down_element to v is refines =
+      subst (λ j. RefinesAlgorithm s (put_index m.object j v >>= λ _. others_down m.left) u a) is refines
 
   -- where there is none, the other is deleted
 
   pub moves_up_missing : (k i to after : ℕ) (b : Bool) → i ≡ k + m.from → b ≡ has_index s.store m.object i
       → b ≡ false → to ≡ k + m.to → after ≡ k + 1
-      → Works s (delete_index m.object to >>= λ _. others_up m.left after) u a
-      → Works s (move_element m.object (k + m.from) (k + m.to) >>= λ _. others_up m.left (k + 1)) u a
-  moves_up_missing k i to after b is found missing is_to more leads =
-      subst (λ j. Works s (move_element m.object j (k + m.to) >>= λ _. others_up m.left (k + 1)) u a) is
+      → RefinesAlgorithm s (delete_index m.object to >>= λ _. others_up m.left after) u a
+      → RefinesAlgorithm s (move_element m.object (k + m.from) (k + m.to) >>= λ _. others_up m.left (k + 1)) u a
+  moves_up_missing k i to after b is found missing is_to more refines =
+      subst (λ j. RefinesAlgorithm s (move_element m.object j (k + m.to) >>= λ _. others_up m.left (k + 1)) u a) is
       (element_missing s u a m.object i (put_or_delete m.object (k + m.to)) (λ _. others_up m.left (k + 1)) b found
       missing
-      (subst (λ j. Works s (delete_index m.object j >>= λ _. others_up m.left (k + 1)) u a) is_to
-      (subst (λ j. Works s (delete_index m.object to >>= λ _. others_up m.left j) u a) more leads)))
+      (subst (λ j. RefinesAlgorithm s (delete_index m.object j >>= λ _. others_up m.left (k + 1)) u a) is_to
+      (subst (λ j. RefinesAlgorithm s (delete_index m.object to >>= λ _. others_up m.left j) u a) more refines)))
 
   pub moves_down_missing : (i to : ℕ) (b : Bool) → i ≡ m.from + m.left → b ≡ has_index s.store m.object i
-      → b ≡ false → to ≡ m.to + m.left → Works s (delete_index m.object to >>= λ _. others_down m.left) u a
-      → Works s (move_element m.object (m.from + m.left) (m.to + m.left) >>= λ _. others_down m.left) u a
-  moves_down_missing i to b is found missing is_to leads =
-      subst (λ j. Works s (move_element m.object j (m.to + m.left) >>= λ _. others_down m.left) u a) is
+      → b ≡ false → to ≡ m.to + m.left → RefinesAlgorithm s (delete_index m.object to >>= λ _. others_down m.left) u a
+      → RefinesAlgorithm s (move_element m.object (m.from + m.left) (m.to + m.left) >>= λ _. others_down m.left) u a
+  moves_down_missing i to b is found missing is_to refines =
+      subst (λ j. RefinesAlgorithm s (move_element m.object j (m.to + m.left) >>= λ _. others_down m.left) u a) is
       (element_missing s u a m.object i (put_or_delete m.object (m.to + m.left)) (λ _. others_down m.left) b found
-      missing (subst (λ j. Works s (delete_index m.object j >>= λ _. others_down m.left) u a) is_to leads))
+      missing (subst (λ j. RefinesAlgorithm s (delete_index m.object j >>= λ _. others_down m.left) u a) is_to refines))
 
 -- what follows when all have been moved
 
 module _ (s t : State) (a : Act) (o : ObjId) (next : AfterMoving) where
   abbrev follows : AfterMoving → Type 0
-  follows n = Works s (after_moving o n) t a
+  follows n = RefinesAlgorithm s (after_moving o n) t a
 
   pub moved_shift : (first : Value) (last : ℕ) → next ≡ moved.Shift first last
-      → Works s (without_last o last first) t a → Works s (after_moving o next) t a
-  moved_shift first last is leads = subst follows (sym is) leads
+      → RefinesAlgorithm s (without_last o last first) t a → RefinesAlgorithm s (after_moving o next) t a
+  moved_shift first last is refines = subst follows (sym is) refines
 
   pub moved_delete : (x : Splicing) (n left : ℕ) → next ≡ moved.Delete x → n ≡ length x.items → left ≡ x.removed - n
-      → Works s (delete_end x left) t a → Works s (after_moving o next) t a
-  moved_delete x n left is as_many as_left leads =
+      → RefinesAlgorithm s (delete_end x left) t a → RefinesAlgorithm s (after_moving o next) t a
+  moved_delete x n left is as_many as_left refines =
       subst follows (sym is)
-      (subst (λ m. Works s (delete_end x (x.removed - m)) t a) as_many
-      (subst (λ m. Works s (delete_end x m) t a) as_left leads))
+      (subst (λ m. RefinesAlgorithm s (delete_end x (x.removed - m)) t a) as_many
+      (subst (λ m. RefinesAlgorithm s (delete_end x m) t a) as_left refines))
 
-  pub moved_put : (x : Splicing) → next ≡ moved.Put x → Works s (put_items x) t a → Works s (after_moving o next) t a
-  moved_put x is leads = subst follows (sym is) leads
+  pub moved_put : (x : Splicing) → next ≡ moved.Put x → RefinesAlgorithm s (put_items x) t a
+      → RefinesAlgorithm s (after_moving o next) t a
+  moved_put x is refines = subst follows (sym is) refines
 
   pub moved_unshift : (args : List Value) (len : ℕ) → next ≡ moved.Unshift args len
-      → Works s (put_others o 0 args (put.Unshift len)) t a → Works s (after_moving o next) t a
-  moved_unshift args len is leads = subst follows (sym is) leads
+      → RefinesAlgorithm s (put_others o 0 args (put.Unshift len)) t a → RefinesAlgorithm s (after_moving o next) t a
+  moved_unshift args len is refines = subst follows (sym is) refines

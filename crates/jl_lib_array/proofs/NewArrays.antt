@@ -25,7 +25,7 @@ use Rattle.jl_meaning.specs.builtins.Arguments.{argument, give_object}
 use Rattle.jl_meaning.specs.builtins.Elements.{add_index, array_of_length}
 use Rattle.jl_meaning.specs.forms.Literals.{new_array}
 use Rattle.jl_store.specs.Answers.{fault_seen, finish_of}
-use Rattle.jl_store.specs.Comes.{Comes}
+use Rattle.jl_store.specs.BigStep.{BigStep}
 use Rattle.jl_store.specs.declared.answer.AlgorithmFault.{AlgorithmFault}
 use Rattle.jl_store.specs.declared.answer.Finished.{Finished}
 use Rattle.jl_store.specs.declared.answer.Finished.TheVariants as ended
@@ -33,7 +33,7 @@ use Rattle.jl_store.proofs.Chains.{comes_failed, comes_on, comes_thrown}
 use Rattle.jl_store.proofs.PropertyChanges.{puts_length}
 use Rattle.jl_store.proofs.Loops.{all_done, next_done, next_failed, next_thrown, none_left, Leaves}
 use Rattle.jl_store.proofs.Steps.{comes_to}
-use Rattle.jl_state.specs.Rest.{Works}
+use Rattle.jl_state.specs.Rest.{RefinesAlgorithm}
 use Rattle.jl_state.specs.declared.act.Act.{Act}
 use Rattle.jl_state.specs.declared.act.Act.TheVariants as act
 use Rattle.jl_state.specs.declared.state.State.{State}
@@ -78,13 +78,16 @@ not_alone (v ∷ []) differs = absurd (differs refl)
 not_alone (v ∷ w ∷ vs) differs = refl
 
 pub constructs_length : (s : State) (args : List Value) (o : Option Number) (n : Number) (t : State) (a : Act)
-    → o ≡ only_number args → o ≡ Some n → Works s (array_of_one (value.Num n)) t a → Works s (array_by args) t a
-constructs_length s args o n t a is some leads =
-    subst (λ p. Works s p t a) (number_alone args n (sym is ∙ some)) leads
+    → o ≡ only_number args → o ≡ Some n → RefinesAlgorithm s (array_of_one (value.Num n)) t a
+    → RefinesAlgorithm s (array_by args) t a
+constructs_length s args o n t a is some refines =
+    subst (λ p. RefinesAlgorithm s p t a) (number_alone args n (sym is ∙ some)) refines
 
 pub constructs_values : (s : State) (args : List Value) (o : Option Number) (t : State) (a : Act)
-    → o ≡ only_number args → o ≡ None → Works s (array_of_values args) t a → Works s (array_by args) t a
-constructs_values s args o t a is none leads = subst (λ p. Works s p t a) (no_number args (sym is ∙ none)) leads
+    → o ≡ only_number args → o ≡ None → RefinesAlgorithm s (array_of_values args) t a
+    → RefinesAlgorithm s (array_by args) t a
+constructs_values s args o t a is none refines = subst (λ p. RefinesAlgorithm s p t a)
+    (no_number args (sym is ∙ none)) refines
 
 -- an array of a length
 
@@ -94,33 +97,35 @@ of_length fits n =
     >>= λ length. array_of_length length >>= λ a. give (value.Obj a)
 
 module _ (s : State) (n : Number) (b : Bool) (is : b ≡ same_number (Some (pos (uint32_of n))) n) where
-  pub fits_length : (t : State) (a : Act) → b ≡ true → Works s (array_of_length (value.Num n) >>= give_object) t a
-      → Works s (array_of_one (value.Num n)) t a
-  fits_length t a so leads = subst (λ c. Works s (of_length c n) t a) (sym so ∙ is) leads
+  pub fits_length : (t : State) (a : Act) → b ≡ true
+      → RefinesAlgorithm s (array_of_length (value.Num n) >>= give_object) t a
+      → RefinesAlgorithm s (array_of_one (value.Num n)) t a
+  fits_length t a so refines = subst (λ c. RefinesAlgorithm s (of_length c n) t a) (sym so ∙ is) refines
 
-  pub bad_length : (t : State) (a : Act) → b ≡ false → Works s (throw_error RangeError (codes "bad array length")) t a
-      → Works s (array_of_one (value.Num n)) t a
-  bad_length t a so leads =
-      subst (λ c. Works s (of_length c n) t a) (sym so ∙ is)
+  pub bad_length : (t : State) (a : Act) → b ≡ false
+      → RefinesAlgorithm s (throw_error RangeError (codes "bad array length")) t a
+      → RefinesAlgorithm s (array_of_one (value.Num n)) t a
+  bad_length t a so refines =
+      subst (λ c. RefinesAlgorithm s (of_length c n) t a) (sym so ∙ is)
       (works_left_out s RangeError (codes "bad array length")
-      (λ length. array_of_length length >>= λ a. give (value.Obj a)) t a leads)
+      (λ length. array_of_length length >>= λ a. give (value.Obj a)) t a refines)
 
 -- whether a value is an array
 pub tests_array : (s : State) (c : Call) (v : Value) (b : Bool) → v ≡ argument c 0 → b ≡ is_array_value s.store.heap v
-    → Works s (array_is_array c) s (act.Give (value.Bool b))
+    → RefinesAlgorithm s (array_is_array c) s (act.Give (value.Bool b))
 tests_array s c v b is truth =
     looks s (λ store. give_truth (is_array_value store.heap (argument c 0))) (give_truth b) s (act.Give (value.Bool b))
     (ap give_truth (truth ∙ ap (is_array_value s.store.heap) is)) (record { is = λ kept told. refl })
 
 -- an array gets its length
 module _ (from made to : Store) (a : ObjId) (n : Number) (x : Name) (change : Change)
-    (new : Comes new_array from made (Ends (gives a))) (name_is : x ≡ codes "length")
+    (new : BigStep new_array from made (Ends (gives a))) (name_is : x ≡ codes "length")
     (change_is : change ≡ value_change (value.Num n)) (answer : Finished Bool)
-    (comes : Comes (define_own_property a x change) made to (finish_of answer)) where
+    (comes : BigStep (define_own_property a x change) made to (finish_of answer)) where
   abbrev length_put : Algorithm Bool
   length_put = define_own_property a length_name (value_change (value.Num n))
 
-  puts : (end : Finished Bool) → answer ≡ end → Comes length_put made to (finish_of end)
+  puts : (end : Finished Bool) → answer ≡ end → BigStep length_put made to (finish_of end)
   puts end is =
       puts_length a x (value.Num n) (value.Num n) change made to answer end name_is refl change_is is comes
 
@@ -128,22 +133,22 @@ module _ (from made to : Store) (a : ObjId) (n : Number) (x : Name) (change : Ch
   with_length id = define_own_property id length_name (value_change (value.Num n)) >>= λ _. give id
 
   pub length_given : (done : Bool) → answer ≡ ended.Gives done
-      → Comes (array_of_length (value.Num n)) from to (Ends (gives a))
+      → BigStep (array_of_length (value.Num n)) from to (Ends (gives a))
   length_given done is = comes_on with_length new (comes_on (λ _. give a) (puts (ended.Gives done) is) comes_to)
 
   pub length_thrown : (v : Value) → answer ≡ ended.Throws v
-      → Comes (array_of_length (value.Num n)) from to (Ends (throws v))
+      → BigStep (array_of_length (value.Num n)) from to (Ends (throws v))
   length_thrown v is = comes_on with_length new (comes_thrown (λ _. give a) (puts (ended.Throws v) is))
 
   pub length_failed : (f : AlgorithmFault) → answer ≡ ended.Fails f
-      → Comes (array_of_length (value.Num n)) from to (Fails (fault_seen f))
+      → BigStep (array_of_length (value.Num n)) from to (Fails (fault_seen f))
   length_failed f is = comes_on with_length new (comes_failed (λ _. give a) (puts (ended.Fails f) is))
 
 -- elements, one after another
 module _ {s t u : Store} (a : ObjId) (i : ℕ) (values : List Value) (v : Value)
     (before : Leaves (add_all a 0 values) s (add_all a i (drop i values)) t) (within : i < length values)
     (item : Value) (there : item ≡ get_or values i item) (shared : v ≡ item) (answer : Finished (Unit {0}))
-    (comes : Comes (add_index a i v) t u (finish_of answer)) where
+    (comes : BigStep (add_index a i v) t u (finish_of answer)) where
   is : v ≡ get_or values i v
   is = subst (λ w. w ≡ get_or values i w) (sym shared) there
 
@@ -155,21 +160,21 @@ module _ {s t u : Store} (a : ObjId) (i : ℕ) (values : List Value) (v : Value)
   left : Leaves (add_all a 0 values) s (add_index a i v >>= λ _. add_all a (i + 1) (drop (i + 1) values)) t
   left = subst (λ l. Leaves (add_all a 0 values) s (add_all a i l) t) split before
 
-  so : (end : Finished (Unit {0})) → answer ≡ end → Comes (add_index a i v) t u (finish_of end)
-  so end same = subst (λ (f : Finished (Unit {0})). Comes (add_index a i v) t u (finish_of f)) same comes
+  so : (end : Finished (Unit {0})) → answer ≡ end → BigStep (add_index a i v) t u (finish_of end)
+  so end same = subst (λ (f : Finished (Unit {0})). BigStep (add_index a i v) t u (finish_of f)) same comes
 
   pub element_done : answer ≡ ended.Gives tt
       → Leaves (add_all a 0 values) s (add_all a (i + 1) (drop (i + 1) values)) u
   element_done same = next_done left (so (ended.Gives tt) same)
 
-  pub element_thrown : (w : Value) → answer ≡ ended.Throws w → Comes (add_all a 0 values) s u (Ends (throws w))
+  pub element_thrown : (w : Value) → answer ≡ ended.Throws w → BigStep (add_all a 0 values) s u (Ends (throws w))
   element_thrown w same = next_thrown (add_all a (i + 1) (drop (i + 1) values)) left (so (ended.Throws w) same)
 
   pub element_failed : (f : AlgorithmFault) → answer ≡ ended.Fails f
-      → Comes (add_all a 0 values) s u (Fails (fault_seen f))
+      → BigStep (add_all a 0 values) s u (Fails (fault_seen f))
   element_failed f same = next_failed (add_all a (i + 1) (drop (i + 1) values)) left (so (ended.Fails f) same)
 
 pub elements_done : {s t : Store} (a : ObjId) (i : ℕ) (values : List Value) → length values ≡ i
-    → Leaves (add_all a 0 values) s (add_all a i (drop i values)) t → Comes (add_all a 0 values) s t (Ends (gives tt))
+    → Leaves (add_all a 0 values) s (add_all a i (drop i values)) t → BigStep (add_all a 0 values) s t (Ends (gives tt))
 elements_done {s} {t} a i values over before =
     all_done (subst (λ l. Leaves (add_all a 0 values) s (add_all a i l) t) (none_left values i over) before)

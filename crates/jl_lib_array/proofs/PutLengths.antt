@@ -11,7 +11,7 @@ use Rattle.jl_meaning.specs.Operators.{give_number}
 use Rattle.jl_meaning.specs.Parts.{give, ◌>>=◌, Algorithm}
 use Rattle.jl_meaning.specs.Putting.{put}
 use Rattle.jl_meaning.specs.builtins.Elements.{give_length, put_length}
-use Rattle.jl_state.specs.Rest.{Works}
+use Rattle.jl_state.specs.Rest.{RefinesAlgorithm}
 use Rattle.jl_state.specs.declared.act.Act.{Act}
 use Rattle.jl_state.specs.declared.state.State.{State}
 
@@ -29,6 +29,7 @@ given_whole o n = by (is_number (pos n))
     by false = refl
 
 pub gives_length : (s t : State) (a : Act) (o : ObjId) (n : ℕ) (v : Value) → v ≡ whole n
-    → Works s (put_length o n >>= λ _. give v) t a → Works s (give_length o n) t a
-gives_length s t a o n v is leads =
-    subst (λ p. Works s p t a) (given_whole o n) (subst (λ w. Works s (put_length o n >>= λ _. give w) t a) is leads)
+    → RefinesAlgorithm s (put_length o n >>= λ _. give v) t a → RefinesAlgorithm s (give_length o n) t a
+gives_length s t a o n v is refines =
+    subst (λ p. RefinesAlgorithm s p t a) (given_whole o n)
+    (subst (λ w. RefinesAlgorithm s (put_length o n >>= λ _. give w) t a) is refines)

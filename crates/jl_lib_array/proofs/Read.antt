@@ -13,7 +13,7 @@ use Rattle.jl_progress.specs.Arrays.{array_after, put_others, sort_others}
 use Rattle.jl_progress.specs.declared.array.AfterPutting.TheVariants as put
 use Rattle.jl_progress.specs.declared.array.ArrayProgress.TheVariants as array
 use Rattle.jl_progress.specs.declared.array.Reading.{Reading}
-use Rattle.jl_state.specs.Rest.{Works}
+use Rattle.jl_state.specs.Rest.{RefinesAlgorithm}
 use Rattle.jl_state.specs.Steps.{RanOut, Took}
 use Rattle.jl_state.specs.declared.act.Act.{Act}
 use Rattle.jl_state.specs.declared.act.Act.TheVariants as act
@@ -38,34 +38,36 @@ module _ (s t : State) (a : Act) (r : Reading) (read : List KeyedValue) (v : Val
 
   -- the element is converted, which isn't undefined
   pub reads_string : (element : Value) → element ≡ v → is_undefined v ≡ false
-      → Works s (to_primitive string_hint v >>= array_after (array.SortPrimitive r read element)) t a
-      → Works s (array_after (array.SortElement r read) v) t a
-  reads_string element same there leads =
-      subst (λ p. Works s p t a)
+      → RefinesAlgorithm s (to_primitive string_hint v >>= array_after (array.SortPrimitive r read element)) t a
+      → RefinesAlgorithm s (array_after (array.SortElement r read) v) t a
+  reads_string element same there refines =
+      subst (λ p. RefinesAlgorithm s p t a)
       (string_converts v (λ x. sort_others r (read ++ (Some x, v) ∷ []))
       ∙ key_there v (λ key. sort_others r (read ++ (key, v) ∷ [])) there
       ∙ sym (bind_assoc (key_of v) with_key (sort_others r)))
-      (subst (λ w. Works s (to_primitive string_hint v >>= array_after (array.SortPrimitive r read w)) t a) same leads)
+      (subst (λ w. RefinesAlgorithm s (to_primitive string_hint v >>= array_after
+      (array.SortPrimitive r read w)) t a) same refines)
 
 -- its string has been read
 pub reads_primitive : (s t : State) (a : Act) (r : Reading) (read longer : List KeyedValue) (v p : Value)
-    (text : List ℕ) → text ≡ text_of_value p → longer ≡ read ++ (Some text, v) ∷ [] → Works s (sort_others r longer) t a
-    → Works s (array_after (array.SortPrimitive r read v) p) t a
-reads_primitive s t a r read longer v p text text_is is leads =
-    subst (λ (l : List KeyedValue). Works s (sort_others r l) t a)
-    (is ∙ ap (λ (x : List ℕ). read ++ (Some x, v) ∷ []) text_is) leads
+    (text : List ℕ) → text ≡ text_of_value p → longer ≡ read ++ (Some text, v) ∷ []
+    → RefinesAlgorithm s (sort_others r longer) t a
+    → RefinesAlgorithm s (array_after (array.SortPrimitive r read v) p) t a
+reads_primitive s t a r read longer v p text text_is is refines =
+    subst (λ (l : List KeyedValue). RefinesAlgorithm s (sort_others r l) t a)
+    (is ∙ ap (λ (x : List ℕ). read ++ (Some x, v) ∷ []) text_is) refines
 
 -- undefined has none
 pub reads_undefined : (s t : State) (a : Act) (r : Reading) (read longer : List KeyedValue) (v : Value)
-    → is_undefined v ≡ true → longer ≡ read ++ (None, v) ∷ [] → Works s (sort_others r longer) t a
-    → Works s (array_after (array.SortElement r read) v) t a
-reads_undefined s t a r read longer value.Undefined none is leads =
-    subst (λ (l : List KeyedValue). Works s (sort_others r l) t a) is leads
-reads_undefined s t a r read longer value.Null e is leads = absurd (let differ = e in cc)
-reads_undefined s t a r read longer (value.Bool b) e is leads = absurd (let differ = e in cc)
-reads_undefined s t a r read longer (value.Num n) e is leads = absurd (let differ = e in cc)
-reads_undefined s t a r read longer (value.Text x) e is leads = absurd (let differ = e in cc)
-reads_undefined s t a r read longer (value.Obj id) e is leads = absurd (let differ = e in cc)
+    → is_undefined v ≡ true → longer ≡ read ++ (None, v) ∷ [] → RefinesAlgorithm s (sort_others r longer) t a
+    → RefinesAlgorithm s (array_after (array.SortElement r read) v) t a
+reads_undefined s t a r read longer value.Undefined none is refines =
+    subst (λ (l : List KeyedValue). RefinesAlgorithm s (sort_others r l) t a) is refines
+reads_undefined s t a r read longer value.Null e is refines = absurd (let differ = e in cc)
+reads_undefined s t a r read longer (value.Bool b) e is refines = absurd (let differ = e in cc)
+reads_undefined s t a r read longer (value.Num n) e is refines = absurd (let differ = e in cc)
+reads_undefined s t a r read longer (value.Text x) e is refines = absurd (let differ = e in cc)
+reads_undefined s t a r read longer (value.Obj id) e is refines = absurd (let differ = e in cc)
 
 -- turns in which an element is read
 
@@ -73,36 +75,39 @@ module _ (s u : State) (a : Act) (r : Reading) (read : List KeyedValue) where
   abbrev then_put : List KeyedValue → Algorithm Value
   then_put l = put_others r.object 0 (map (λ (x : KeyedValue). x.1) (sort_by_keys l)) (put.Sort r.length)
 
-  pub reads_end : r.left ≡ 0 → Works s (then_put read) u a → Works s (sort_others r read) u a
-  reads_end none leads = upward_ends s u a (read_turn r.object) then_put r.left r.k read none leads
+  pub reads_end : r.left ≡ 0 → RefinesAlgorithm s (then_put read) u a → RefinesAlgorithm s (sort_others r read) u a
+  reads_end none refines = upward_ends s u a (read_turn r.object) then_put r.left r.k read none refines
 
-  pub reads_spent : (r.left ≡ 0 → ⊥) → u ≡ s → RanOut s → Works s (sort_others r read) u act.Spent
+  pub reads_spent : (r.left ≡ 0 → ⊥) → u ≡ s → RanOut s → RefinesAlgorithm s (sort_others r read) u act.Spent
   reads_spent some same spent = upward_spent s u a (read_turn r.object) then_put r.left r.k read some same spent
 
   pub reads_take : (t : State) (k : ℕ) → (r.left ≡ 0 → ⊥) → Took s t → k ≡ r.k + 1
-      → Works t (read_turn r.object r.k read >>= sort_others (record r { left = r.left - 1; k = k })) u a
-      → Works s (sort_others r read) u a
-  reads_take t k some took more leads =
+      → RefinesAlgorithm t (read_turn r.object r.k read >>= sort_others (record r { left = r.left - 1; k = k })) u a
+      → RefinesAlgorithm s (sort_others r read) u a
+  reads_take t k some took more refines =
       upward_takes s u a (read_turn r.object) then_put t r.left r.k read some took
-      (subst (λ i. Works t (read_turn r.object r.k read >>= sort_others (record r { left = r.left - 1; k = i })) u a)
-      more leads)
+      (subst (λ i. RefinesAlgorithm t (read_turn r.object r.k read >>= sort_others
+      (record r { left = r.left - 1; k = i })) u a)
+      more refines)
 
   pub reads_there : (i : ℕ) (b : Bool) → b ≡ has_index s.store r.object i → b ≡ true
-      → Works s (get_index r.object i >>= array_after (array.SortElement r read)) u a
-      → Works s (read_turn r.object i read >>= sort_others r) u a
-  reads_there i b found there leads =
-      element_there s u a r.object i (with_element read) (sort_others r) b found there leads
+      → RefinesAlgorithm s (get_index r.object i >>= array_after (array.SortElement r read)) u a
+      → RefinesAlgorithm s (read_turn r.object i read >>= sort_others r) u a
+  reads_there i b found there refines =
+      element_there s u a r.object i (with_element read) (sort_others r) b found there refines
 
   pub reads_missing : (i : ℕ) (b : Bool) → b ≡ has_index s.store r.object i → b ≡ false
-      → Works s (sort_others r read) u a → Works s (read_turn r.object i read >>= sort_others r) u a
-  reads_missing i b found missing leads =
-      element_missing s u a r.object i (with_element read) (sort_others r) b found missing leads
+      → RefinesAlgorithm s (sort_others r read) u a
+      → RefinesAlgorithm s (read_turn r.object i read >>= sort_others r) u a
+  reads_missing i b found missing refines =
+      element_missing s u a r.object i (with_element read) (sort_others r) b found missing refines
 
   -- what was read is sorted, and then its values are put
   pub sorts : (sorted : List KeyedValue) (values : List Value) → sorted ≡ sort_by_keys read
       → values ≡ map (λ (x : KeyedValue). x.1) sorted
-      → Works s (put_others r.object 0 values (put.Sort r.length)) u a → Works s (then_put read) u a
-  sorts sorted values in_order are leads =
-      subst (λ (l : List KeyedValue). Works s (put_others r.object 0 (map (λ (x : KeyedValue). x.1) l)
+      → RefinesAlgorithm s (put_others r.object 0 values (put.Sort r.length)) u a
+      → RefinesAlgorithm s (then_put read) u a
+  sorts sorted values in_order are refines =
+      subst (λ (l : List KeyedValue). RefinesAlgorithm s (put_others r.object 0 (map (λ (x : KeyedValue). x.1) l)
       (put.Sort r.length)) u a) in_order
-      (subst (λ (l : List Value). Works s (put_others r.object 0 l (put.Sort r.length)) u a) are leads)
+      (subst (λ (l : List Value). RefinesAlgorithm s (put_others r.object 0 l (put.Sort r.length)) u a) are refines)

@@ -16,7 +16,7 @@ use Rattle.jl_progress.specs.ArrayCalls.{search_from}
 use Rattle.jl_progress.specs.ArrayCalls.{search_with, usual_from}
 use Rattle.jl_progress.specs.declared.array_call.Direction.{Direction}
 use Rattle.jl_progress.specs.declared.array_call.Direction.TheVariants as direction
-use Rattle.jl_state.specs.Rest.{Works}
+use Rattle.jl_state.specs.Rest.{RefinesAlgorithm}
 use Rattle.jl_state.specs.Steps.{RanOut, Took}
 use Rattle.jl_state.specs.declared.act.Act.{Act}
 use Rattle.jl_state.specs.declared.act.Act.TheVariants as act
@@ -28,10 +28,10 @@ use Rattle.jl_lib_array.proofs.PlaceTurns.{first_downward_turn, first_upward_ove
 -- how a search begins
 
 pub nothing_to_search : (s : State) (d : Direction) (o : ObjId) (length : ℕ) (args : List Value) (v : Value)
-    → length ≡ 0 → v ≡ index_or_none None → Works s (search d o length args) s (act.Give v)
+    → length ≡ 0 → v ≡ index_or_none None → RefinesAlgorithm s (search d o length args) s (act.Give v)
 nothing_to_search s d o length args v none is =
-    subst (λ n. Works s (search d o n args) s (act.Give v)) (sym none)
-    (subst (λ w. Works s (give w) s (act.Give v)) is (record { is = λ kept told. refl }))
+    subst (λ n. RefinesAlgorithm s (search d o n args) s (act.Give v)) (sym none)
+    (subst (λ w. RefinesAlgorithm s (give w) s (act.Give v)) is (record { is = λ kept told. refl }))
 
 usual_place : (d : Direction) (n : ℕ) → place_from d (usual_from d (suc n)) (suc n) ≡ first_place d (suc n)
 usual_place direction.Up n = omega arith
@@ -39,31 +39,34 @@ usual_place direction.Down n = omega arith
 
 pub searches_all : (s : State) (d : Direction) (o : ObjId) (length : ℕ) (args : List Value) (x : Value) (at : ℕ)
     (t : State) (a : Act) → (length ≡ 0 → ⊥) → slice_get args 1 ≡ None → x ≡ argument_of args 0
-    → at ≡ first_place d length → Works s (search_from d o length x at) t a → Works s (search d o length args) t a
-searches_all s d o zero args x at t a some none is place leads = absurd (some refl)
-searches_all s d o (suc n) args x at t a some none is place leads = with (slice_get args 1) none
+    → at ≡ first_place d length → RefinesAlgorithm s (search_from d o length x at) t a
+    → RefinesAlgorithm s (search d o length args) t a
+searches_all s d o zero args x at t a some none is place refines = absurd (some refl)
+searches_all s d o (suc n) args x at t a some none is place refines = with (slice_get args 1) none
   where
-    from_start : Works s (search_from d o (suc n) (argument_of args 0)
+    from_start : RefinesAlgorithm s (search_from d o (suc n) (argument_of args 0)
         (place_from d (usual_from d (suc n)) (suc n))) t a
     from_start =
-        subst (λ k. Works s (search_from d o (suc n) (argument_of args 0) k) t a) (place ∙ sym (usual_place d n))
-        (subst (λ y. Works s (search_from d o (suc n) y at) t a) is leads)
+        subst (λ k. RefinesAlgorithm s (search_from d o (suc n) (argument_of args 0) k) t a)
+        (place ∙ sym (usual_place d n))
+        (subst (λ y. RefinesAlgorithm s (search_from d o (suc n) y at) t a) is refines)
 
     with : (v : Option Value) → v ≡ None
-        → Works s (integer_or (usual_from d (suc n)) v >>= λ z.
+        → RefinesAlgorithm s (integer_or (usual_from d (suc n)) v >>= λ z.
         search_from d o (suc n) (argument_of args 0) (place_from d z (suc n))) t a
     with None e = from_start
     with (Some v) e = absurd (let differ = e in cc)
 
 pub searches_from : (s : State) (d : Direction) (o : ObjId) (length : ℕ) (args : List Value) (x v : Value)
     (t : State) (a : Act) → (length ≡ 0 → ⊥) → slice_get args 1 ≡ Some v → x ≡ argument_of args 0
-    → Works s (to_integer v >>= λ z. search_from d o length x (place_from d z length)) t a
-    → Works s (search d o length args) t a
-searches_from s d o zero args x v t a some there is leads = absurd (some refl)
-searches_from s d o (suc n) args x v t a some there is leads =
-    subst (λ (w : Option Value). Works s (integer_or (usual_from d (suc n)) w >>= λ z.
+    → RefinesAlgorithm s (to_integer v >>= λ z. search_from d o length x (place_from d z length)) t a
+    → RefinesAlgorithm s (search d o length args) t a
+searches_from s d o zero args x v t a some there is refines = absurd (some refl)
+searches_from s d o (suc n) args x v t a some there is refines =
+    subst (λ (w : Option Value). RefinesAlgorithm s (integer_or (usual_from d (suc n)) w >>= λ z.
     search_from d o (suc n) (argument_of args 0) (place_from d z (suc n))) t a) (sym there)
-    (subst (λ y. Works s (to_integer v >>= λ z. search_from d o (suc n) y (place_from d z (suc n))) t a) is leads)
+    (subst (λ y. RefinesAlgorithm s (to_integer v >>= λ z. search_from d o (suc n) y
+    (place_from d z (suc n))) t a) is refines)
 
 -- turns
 
@@ -71,10 +74,11 @@ abbrev last : Option ℕ → Algorithm Value
 last found = give (index_or_none found)
 
 pub search_over : (s : State) (d : Direction) (o : ObjId) (length : ℕ) (x : Value) (at : ℕ) (v : Value)
-    → index_at d at length ≡ None → v ≡ index_or_none None → Works s (search_from d o length x at) s (act.Give v)
+    → index_at d at length ≡ None → v ≡ index_or_none None
+    → RefinesAlgorithm s (search_from d o length x at) s (act.Give v)
 search_over s d o length x at v none is =
-    subst (λ p. Works s p s (act.Give v)) (sym (over d at none))
-    (subst (λ w. Works s (give w) s (act.Give v)) is (record { is = λ kept told. refl }))
+    subst (λ p. RefinesAlgorithm s p s (act.Give v)) (sym (over d at none))
+    (subst (λ w. RefinesAlgorithm s (give w) s (act.Give v)) is (record { is = λ kept told. refl }))
   where
     over : (d : Direction) (at : ℕ) → index_at d at length ≡ None
         → search_from d o length x at ≡ give (index_or_none None)
@@ -105,36 +109,41 @@ search_begins direction.Down o length x (suc n) k is = let same : n ≡ k = (let
 
 pub search_found : (s : State) (d : Direction) (o : ObjId) (length : ℕ) (x : Value) (k : ℕ) (v w : Value) (b : Bool)
     → b ≡ strictly_equal x v → b ≡ true → w ≡ index_or_none (Some k)
-    → Works s (search_with d o length x k (Some v)) s (act.Give w)
+    → RefinesAlgorithm s (search_with d o length x k (Some v)) s (act.Give w)
 search_found s d o length x k v w b is so gives =
-    subst (λ (c : Bool). Works s (or_next (found_from d o length x (next_place d k)) (if c then Some k else None)
+    subst (λ (c : Bool). RefinesAlgorithm s
+    (or_next (found_from d o length x (next_place d k)) (if c then Some k else None)
     >>= last) s (act.Give w)) (sym so ∙ is)
-    (subst (λ y. Works s (give y) s (act.Give w)) gives (record { is = λ kept told. refl }))
+    (subst (λ y. RefinesAlgorithm s (give y) s (act.Give w)) gives (record { is = λ kept told. refl }))
 
 pub search_passes : (s : State) (d : Direction) (o : ObjId) (length : ℕ) (x : Value) (k at : ℕ) (v : Value) (b : Bool)
     (t : State) (a : Act) → b ≡ strictly_equal x v → b ≡ false → at ≡ next_place d k
-    → Works s (search_from d o length x at) t a → Works s (search_with d o length x k (Some v)) t a
-search_passes s d o length x k at v b t a is so place leads =
-    subst (λ (c : Bool). Works s (or_next (found_from d o length x (next_place d k)) (if c then Some k else None)
+    → RefinesAlgorithm s (search_from d o length x at) t a
+    → RefinesAlgorithm s (search_with d o length x k (Some v)) t a
+search_passes s d o length x k at v b t a is so place refines =
+    subst (λ (c : Bool). RefinesAlgorithm s
+    (or_next (found_from d o length x (next_place d k)) (if c then Some k else None)
     >>= last) t a) (sym so ∙ is)
-    (subst (λ n. Works s (search_from d o length x n) t a) place leads)
+    (subst (λ n. RefinesAlgorithm s (search_from d o length x n) t a) place refines)
 
 -- the same of states
 
 pub search_goes_on : (s t : State) (d : Direction) (o : ObjId) (length : ℕ) (x : Value) (at k : ℕ) (u : State) (a : Act)
-    → index_at d at length ≡ Some k → Took s t → Works t (element o k >>= search_with d o length x k) u a
-    → Works s (search_from d o length x at) u a
-search_goes_on s t d o length x at k u a is took leads =
-    subst (λ p. Works s p u a) (search_begins d o length x at k is)
-    (took.works (element o k >>= search_with d o length x k) u a leads)
+    → index_at d at length ≡ Some k → Took s t → RefinesAlgorithm t (element o k >>= search_with d o length x k) u a
+    → RefinesAlgorithm s (search_from d o length x at) u a
+search_goes_on s t d o length x at k u a is took refines =
+    subst (λ p. RefinesAlgorithm s p u a) (search_begins d o length x at k is)
+    (took.works (element o k >>= search_with d o length x k) u a refines)
 
 pub search_spent : (s t : State) (d : Direction) (o : ObjId) (length : ℕ) (x : Value) (at k : ℕ)
-    → index_at d at length ≡ Some k → t ≡ s → RanOut s → Works s (search_from d o length x at) t act.Spent
+    → index_at d at length ≡ Some k → t ≡ s → RanOut s → RefinesAlgorithm s (search_from d o length x at) t act.Spent
 search_spent s t d o length x at k is same ran =
-    subst (λ (v : State). Works s (search_from d o length x at) v act.Spent) (sym same)
-    (subst (λ p. Works s p s act.Spent) (search_begins d o length x at k is)
+    subst (λ (v : State). RefinesAlgorithm s (search_from d o length x at) v act.Spent) (sym same)
+    (subst (λ p. RefinesAlgorithm s p s act.Spent) (search_begins d o length x at k is)
     (ran.works (element o k >>= search_with d o length x k)))
 
 pub search_misses : (s : State) (d : Direction) (o : ObjId) (length : ℕ) (x : Value) (k at : ℕ) (t : State) (a : Act)
-    → at ≡ next_place d k → Works s (search_from d o length x at) t a → Works s (search_with d o length x k None) t a
-search_misses s d o length x k at t a place leads = subst (λ n. Works s (search_from d o length x n) t a) place leads
+    → at ≡ next_place d k → RefinesAlgorithm s (search_from d o length x at) t a
+    → RefinesAlgorithm s (search_with d o length x k None) t a
+search_misses s d o length x k at t a place refines = subst
+    (λ n. RefinesAlgorithm s (search_from d o length x n) t a) place refines

@@ -20,7 +20,7 @@ use Rattle.jl_progress.specs.ArrayCalls.{argument_of, copy_from, slice_to, with_
 use Rattle.jl_progress.specs.declared.array_call.ArrayCallProgress.TheVariants as array_call
 use Rattle.jl_progress.specs.declared.array_call.LengthFor.TheVariants as length_for
 use Rattle.jl_progress.specs.declared.progress.Progress.TheVariants as progress
-use Rattle.jl_state.specs.Rest.{Works}
+use Rattle.jl_state.specs.Rest.{RefinesAlgorithm}
 use Rattle.jl_state.specs.Steps.{AlgorithmWaits, RanOut, Took}
 use Rattle.jl_state.specs.declared.act.Act.{Act}
 use Rattle.jl_state.specs.declared.act.Act.TheVariants as act
@@ -43,9 +43,9 @@ plain k = omega arith
 
 -- the turns are over
 pub copied : (s : State) (o : ObjId) (start : ℕ) (a : ObjId) (count at : ℕ) → count ≤ at
-    → Works s (copy_from o start a count at) s (act.Give (value.Obj a))
+    → RefinesAlgorithm s (copy_from o start a count at) s (act.Give (value.Obj a))
 copied s o start a count at over =
-    subst (λ n. Works s (upward (turn o start a) n at tt >>= λ _. give_object a) s (act.Give (value.Obj a)))
+    subst (λ n. RefinesAlgorithm s (upward (turn o start a) n at tt >>= λ _. give_object a) s (act.Give (value.Obj a)))
     (sym (none_left count at over)) (record { is = λ kept told. refl })
 
 -- a turn begins
@@ -66,41 +66,42 @@ least_same : (n : ℕ) → min n n ≡ n
 least_same n = omega arith
 
 pub ends_with_length : (s : State) (o a : ObjId) (length start : ℕ) (end : Value) (t : State) (b : Act)
-    → is_undefined end ≡ true → Works s (copy_from o start a (length - start) 0) t b
-    → Works s (slice_to o a length start end) t b
-ends_with_length s o a length start value.Undefined t b none leads =
-    subst (λ n. Works s (copy_from o start a (n - start) 0) t b) (sym (least_same length)) leads
-ends_with_length s o a length start value.Null t b none leads = absurd (let differ = none in cc)
-ends_with_length s o a length start (value.Bool v) t b none leads = absurd (let differ = none in cc)
-ends_with_length s o a length start (value.Num n) t b none leads = absurd (let differ = none in cc)
-ends_with_length s o a length start (value.Text x) t b none leads = absurd (let differ = none in cc)
-ends_with_length s o a length start (value.Obj id) t b none leads = absurd (let differ = none in cc)
+    → is_undefined end ≡ true → RefinesAlgorithm s (copy_from o start a (length - start) 0) t b
+    → RefinesAlgorithm s (slice_to o a length start end) t b
+ends_with_length s o a length start value.Undefined t b none refines =
+    subst (λ n. RefinesAlgorithm s (copy_from o start a (n - start) 0) t b) (sym (least_same length)) refines
+ends_with_length s o a length start value.Null t b none refines = absurd (let differ = none in cc)
+ends_with_length s o a length start (value.Bool v) t b none refines = absurd (let differ = none in cc)
+ends_with_length s o a length start (value.Num n) t b none refines = absurd (let differ = none in cc)
+ends_with_length s o a length start (value.Text x) t b none refines = absurd (let differ = none in cc)
+ends_with_length s o a length start (value.Obj id) t b none refines = absurd (let differ = none in cc)
 
 pub converts_end : (s : State) (o a : ObjId) (length start : ℕ) (end : Value) (t : State) (b : Act)
     → is_undefined end ≡ false
-    → Works s (to_integer end >>= λ z. copy_from o start a (relative_index z length - start) 0) t b
-    → Works s (slice_to o a length start end) t b
-converts_end s o a length start value.Undefined t b there leads = absurd (let differ = there in cc)
-converts_end s o a length start value.Null t b there leads = leads
-converts_end s o a length start (value.Bool v) t b there leads = leads
-converts_end s o a length start (value.Num n) t b there leads = leads
-converts_end s o a length start (value.Text x) t b there leads = leads
-converts_end s o a length start (value.Obj id) t b there leads = leads
+    → RefinesAlgorithm s (to_integer end >>= λ z. copy_from o start a (relative_index z length - start) 0) t b
+    → RefinesAlgorithm s (slice_to o a length start end) t b
+converts_end s o a length start value.Undefined t b there refines = absurd (let differ = there in cc)
+converts_end s o a length start value.Null t b there refines = refines
+converts_end s o a length start (value.Bool v) t b there refines = refines
+converts_end s o a length start (value.Num n) t b there refines = refines
+converts_end s o a length start (value.Text x) t b there refines = refines
+converts_end s o a length start (value.Obj id) t b there refines = refines
 
 -- the same of states
 
 pub copy_begins : (s t : State) (o : ObjId) (start : ℕ) (a : ObjId) (count at : ℕ) (u : State) (b : Act) → at < count
-    → Took s t → Works t (element o (start + at) >>= λ v. add_if a at v >>= λ _. copy_from o start a count (at + 1)) u b
-    → Works s (copy_from o start a count at) u b
-copy_begins s t o start a count at u b below took leads =
-    subst (λ p. Works s p u b) (copies o start a count at below)
-    (took.works (element o (start + at) >>= λ v. add_if a at v >>= λ _. copy_from o start a count (at + 1)) u b leads)
+    → Took s t → RefinesAlgorithm t (element o (start + at) >>= λ v. add_if a at v >>= λ _. copy_from o start a count
+    (at + 1)) u b
+    → RefinesAlgorithm s (copy_from o start a count at) u b
+copy_begins s t o start a count at u b below took refines =
+    subst (λ p. RefinesAlgorithm s p u b) (copies o start a count at below)
+    (took.works (element o (start + at) >>= λ v. add_if a at v >>= λ _. copy_from o start a count (at + 1)) u b refines)
 
 pub copy_spent : (s t : State) (o : ObjId) (start : ℕ) (a : ObjId) (count at : ℕ) → at < count → t ≡ s → RanOut s
-    → Works s (copy_from o start a count at) t act.Spent
+    → RefinesAlgorithm s (copy_from o start a count at) t act.Spent
 copy_spent s t o start a count at below same ran =
-    subst (λ (v : State). Works s (copy_from o start a count at) v act.Spent) (sym same)
-    (subst (λ p. Works s p s act.Spent) (copies o start a count at below)
+    subst (λ (v : State). RefinesAlgorithm s (copy_from o start a count at) v act.Spent) (sym same)
+    (subst (λ p. RefinesAlgorithm s p s act.Spent) (copies o start a count at below)
     (ran.works (element o (start + at) >>= λ v. add_if a at v >>= λ _. copy_from o start a count (at + 1))))
 
 -- an element of a turn, at an index of the object
@@ -110,20 +111,21 @@ copied_on o start a count k v = add_if a k v >>= λ _. copy_from o start a count
 pub copy_misses : (s : State) (o : ObjId) (start from : ℕ) (a : ObjId) (count k : ℕ) (there : Bool) (u : State)
     (b : Act)
     → from ≡ start + k → there ≡ has_index s.store o from → there ≡ false
-    → Works s (copy_from o start a count (k + 1)) u b
-    → Works s (element o (start + k) >>= copied_on o start a count k) u b
-copy_misses s o start from a count k there u b place is so leads =
-    subst (λ n. Works s (element o n >>= copied_on o start a count k) u b) place
-    (element_missing s o from there (copied_on o start a count k) u b is so leads)
+    → RefinesAlgorithm s (copy_from o start a count (k + 1)) u b
+    → RefinesAlgorithm s (element o (start + k) >>= copied_on o start a count k) u b
+copy_misses s o start from a count k there u b place is so refines =
+    subst (λ n. RefinesAlgorithm s (element o n >>= copied_on o start a count k) u b) place
+    (element_missing s o from there (copied_on o start a count k) u b is so refines)
 
 pub copy_waits : (s t : State) (o : ObjId) (start from : ℕ) (a : ObjId) (count k : ℕ) (there : Bool) (u : State)
     (b : Act) → from ≡ start + k → there ≡ has_index s.store o from → there ≡ true
     → AlgorithmWaits s (algorithm.Builtin (progress.ArrayCall (array_call.CopyElement o start a count k))) t
-    → Works t (get_index o from) u b → Works s (element o (start + k) >>= copied_on o start a count k) u b
-copy_waits s t o start from a count k there u b place is so waits leads =
-    subst (λ n. Works s (element o n >>= copied_on o start a count k) u b) place
+    → RefinesAlgorithm t (get_index o from) u b
+    → RefinesAlgorithm s (element o (start + k) >>= copied_on o start a count k) u b
+copy_waits s t o start from a count k there u b place is so waits refines =
+    subst (λ n. RefinesAlgorithm s (element o n >>= copied_on o start a count k) u b) place
     (element_waits s t (progress.ArrayCall (array_call.CopyElement o start a count k)) o from there
-    (copied_on o start a count k) u b is so (λ v. refl) waits leads)
+    (copied_on o start a count k) u b is so (λ v. refl) waits refines)
 
 -- it begins: its array is made before the length is asked for
 
@@ -141,19 +143,22 @@ all_left : (n : ℕ) → n - 0 ≡ n
 all_left n = omega arith
 
 pub slice_begins : (s : State) (c : Call) (t : State) (b : Act)
-    → Works s (to_object c.this >>= λ o. new_array >>= λ a. get_length o >>= with_length (length_for.Slice a) o c.args)
+    → RefinesAlgorithm s (to_object c.this >>= λ o. new_array >>= λ a. get_length o >>= with_length
+    (length_for.Slice a) o c.args)
     t b
-    → Works s (array_slice c) t b
-slice_begins s c t b leads = subst (λ left. Works s (sliced left c) t b) (fun_ext all_left) leads
+    → RefinesAlgorithm s (array_slice c) t b
+slice_begins s c t b refines = subst (λ left. RefinesAlgorithm s (sliced left c) t b) (fun_ext all_left) refines
 
 -- the start is converted, and the end is kept
 pub converts_start : (s u : State) (o a : ObjId) (length : ℕ) (args : List Value) (v end : Value) (t : State) (b : Act)
     → v ≡ argument_of args 0 → end ≡ argument_of args 1
     → AlgorithmWaits s (algorithm.Builtin (progress.ArrayCall (array_call.SliceStart o a length end))) u
-    → Works u (to_primitive number_hint v) t b → Works s (with_length (length_for.Slice a) o args length) t b
-converts_start s u o a length args v end t b is kept waits leads =
-    subst (λ w. Works s (to_integer w >>= λ z. slice_to o a length (relative_index z length) (argument_of args 1)) t b)
+    → RefinesAlgorithm u (to_primitive number_hint v) t b
+    → RefinesAlgorithm s (with_length (length_for.Slice a) o args length) t b
+converts_start s u o a length args v end t b is kept waits refines =
+    subst (λ w. RefinesAlgorithm s (to_integer w >>= λ z. slice_to o a length (relative_index z length)
+    (argument_of args 1)) t b)
     is
-    (subst (λ e. Works s (to_integer v >>= λ z. slice_to o a length (relative_index z length) e) t b) kept
+    (subst (λ e. RefinesAlgorithm s (to_integer v >>= λ z. slice_to o a length (relative_index z length) e) t b) kept
     (integer_waits s u (progress.ArrayCall (array_call.SliceStart o a length end))
-    (λ z. slice_to o a length (relative_index z length) end) v t b (λ w. refl) waits leads))
+    (λ z. slice_to o a length (relative_index z length) end) v t b (λ w. refl) waits refines))

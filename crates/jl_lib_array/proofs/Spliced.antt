@@ -15,7 +15,7 @@ use Rattle.jl_progress.specs.declared.array.AfterPutting.TheVariants as put
 use Rattle.jl_progress.specs.declared.array.ArrayProgress.TheVariants as array
 use Rattle.jl_progress.specs.declared.array.LengthFunction.TheVariants as for_length
 use Rattle.jl_progress.specs.declared.array.Splicing.{Splicing}
-use Rattle.jl_state.specs.Rest.{Works}
+use Rattle.jl_state.specs.Rest.{RefinesAlgorithm}
 use Rattle.jl_state.specs.declared.act.Act.{Act}
 use Rattle.jl_state.specs.declared.state.State.{State}
 use Rattle.jl_operator.proofs.Operands.{found}
@@ -26,37 +26,38 @@ module _ (s t : State) (a : Act) (o gone : ObjId) (length : ℕ) (args : List Va
   from z = splice_from o gone length (relative_index z length) args
 
   pub splices_start : (v : Value) → v ≡ slice_index_or args 0 value.Undefined
-      → Works s (to_primitive number_hint v >>= array_after (array.SpliceStart o gone length args)) t a
-      → Works s (with_length (for_length.Splice gone) o args length) t a
-  splices_start v is leads =
-      subst (λ w. Works s (to_integer w >>= from) t a) is
-      (subst (λ p. Works s p t a) (integer_converts v from) leads)
+      → RefinesAlgorithm s (to_primitive number_hint v >>= array_after (array.SpliceStart o gone length args)) t a
+      → RefinesAlgorithm s (with_length (for_length.Splice gone) o args length) t a
+  splices_start v is refines =
+      subst (λ w. RefinesAlgorithm s (to_integer w >>= from) t a) is
+      (subst (λ p. RefinesAlgorithm s p t a) (integer_converts v from) refines)
 
   abbrev removing : (start : ℕ) → ℤ → Algorithm Value
   removing start z = splice_at o gone length start (clamp z (length - start)) (drop 2 args)
 
   pub splices_count : (p : Value) (n : Number) (start : ℕ) (v : Value) → Some n ≡ number_of_value p
       → start ≡ relative_index (integer_of n) length → v ≡ slice_index_or args 1 value.Undefined
-      → Works s (to_primitive number_hint v >>= array_after (array.SpliceCount o gone length start args)) t a
-      → Works s (array_after (array.SpliceStart o gone length args) p) t a
-  splices_count p n start v there is_start is leads =
+      → RefinesAlgorithm s (to_primitive number_hint v >>= array_after (array.SpliceCount o gone length start args)) t a
+      → RefinesAlgorithm s (array_after (array.SpliceStart o gone length args) p) t a
+  splices_count p n start v there is_start is refines =
       found s t a (number_of_value p) n (λ m. from (integer_of m)) there
-      (subst (λ i. Works s (splice_from o gone length i args) t a) is_start
-      (subst (λ w. Works s (to_integer w >>= removing start) t a) is
-      (subst (λ q. Works s q t a) (integer_converts v (removing start)) leads)))
+      (subst (λ i. RefinesAlgorithm s (splice_from o gone length i args) t a) is_start
+      (subst (λ w. RefinesAlgorithm s (to_integer w >>= removing start) t a) is
+      (subst (λ q. RefinesAlgorithm s q t a) (integer_converts v (removing start)) refines)))
 
   pub splices_at : (p : Value) (n : Number) (start most removed : ℕ) (items : List Value) → Some n ≡ number_of_value p
       → most ≡ length - start → removed ≡ clamp (integer_of n) most → items ≡ drop 2 args
-      → Works s (splice_at o gone length start removed items) t a
-      → Works s (array_after (array.SpliceCount o gone length start args) p) t a
-  splices_at p n start most removed items there is_most is are leads =
+      → RefinesAlgorithm s (splice_at o gone length start removed items) t a
+      → RefinesAlgorithm s (array_after (array.SpliceCount o gone length start args) p) t a
+  splices_at p n start most removed items there is_most is are refines =
       found s t a (number_of_value p) n (λ m. removing start (integer_of m)) there
-      (subst (λ i. Works s (splice_at o gone length start i (drop 2 args)) t a)
+      (subst (λ i. RefinesAlgorithm s (splice_at o gone length start i (drop 2 args)) t a)
       (is ∙ ap (clamp (integer_of n)) is_most)
-      (subst (λ (l : List Value). Works s (splice_at o gone length start removed l) t a) are leads))
+      (subst (λ (l : List Value). RefinesAlgorithm s (splice_at o gone length start removed l) t a) are refines))
 
 -- the elements that come are put
 pub puts_items : (s t : State) (a : Act) (x : Splicing) (length : ℕ) → length ≡ length_spliced x
-    → Works s (put_others x.object x.start x.items (put.Splice x.array length)) t a → Works s (put_items x) t a
-puts_items s t a x length is leads =
-    subst (λ n. Works s (put_others x.object x.start x.items (put.Splice x.array n)) t a) is leads
+    → RefinesAlgorithm s (put_others x.object x.start x.items (put.Splice x.array length)) t a
+    → RefinesAlgorithm s (put_items x) t a
+puts_items s t a x length is refines =
+    subst (λ n. RefinesAlgorithm s (put_others x.object x.start x.items (put.Splice x.array n)) t a) is refines

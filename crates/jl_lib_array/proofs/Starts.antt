@@ -15,10 +15,10 @@ use Rattle.jl_meaning.specs.builtins.ArrayChanges.{array_sort, sort_by}
 use Rattle.jl_meaning.specs.builtins.Elements.{get_length}
 use Rattle.jl_meaning.specs.builtins.Table.{array_algorithm}
 use Rattle.jl_meaning.specs.forms.Literals.{new_array}
-use Rattle.jl_store.specs.Comes.{Comes}
+use Rattle.jl_store.specs.BigStep.{BigStep}
 use Rattle.jl_progress.specs.Arrays.{with_length}
 use Rattle.jl_progress.specs.declared.array.LengthFunction.TheVariants as for_length
-use Rattle.jl_state.specs.Rest.{Works}
+use Rattle.jl_state.specs.Rest.{RefinesAlgorithm}
 use Rattle.jl_state.specs.declared.act.Act.{Act}
 use Rattle.jl_state.specs.declared.state.State.{State}
 use Rattle.jl_state.proofs.Stores.{works_comes, IsStored}
@@ -26,10 +26,11 @@ use Rattle.jl_lib_array.specs.inner.Functions.{change_call, splice_on}
 
 -- what a builtin does is what another one of the same name does
 pub starts : {E : Type 0} (s t : State) (r : Result Act E) (c : Call) (b d : ArrayBuiltin) (p : Algorithm Value)
-    → b ≡ d → array_algorithm d c ≡ p → IfOk r (λ a. Works s p t a) → IfOk r (λ a. Works s (array_algorithm b c) t a)
-starts {E} s t r c b d p is same leads =
-    subst (λ x. IfOk r (λ a. Works s (array_algorithm x c) t a)) (sym is)
-    (subst (λ q. IfOk r (λ a. Works s q t a)) (sym same) leads)
+    → b ≡ d → array_algorithm d c ≡ p → IfOk r (λ a. RefinesAlgorithm s p t a)
+    → IfOk r (λ a. RefinesAlgorithm s (array_algorithm b c) t a)
+starts {E} s t r c b d p is same refines =
+    subst (λ x. IfOk r (λ a. RefinesAlgorithm s (array_algorithm x c) t a)) (sym is)
+    (subst (λ q. IfOk r (λ a. RefinesAlgorithm s q t a)) (sym same) refines)
 
 -- sort, without a function to compare by and with one
 
@@ -53,18 +54,22 @@ leaves_out (value.Text x) c e = refl
 leaves_out (value.Obj id) c e = refl
 
 module _ (s : State) (c : Call) (t : State) (a : Act) (v : Value) (is : v ≡ argument c 0) where
-  pub sorts : is_undefined v ≡ true → Works s (change_call for_length.Sort c) t a → Works s (array_sort c) t a
-  sorts none leads =
-      subst (λ w. Works s (sort_by w c) t a) is (subst (λ p. Works s p t a) (sym (sorts_plainly v c none)) leads)
+  pub sorts : is_undefined v ≡ true → RefinesAlgorithm s (change_call for_length.Sort c) t a
+      → RefinesAlgorithm s (array_sort c) t a
+  sorts none refines =
+      subst (λ w. RefinesAlgorithm s (sort_by w c) t a) is
+      (subst (λ p. RefinesAlgorithm s p t a) (sym (sorts_plainly v c none)) refines)
 
-  pub sorts_not : is_undefined v ≡ false → Works s sort_left_out t a → Works s (array_sort c) t a
-  sorts_not there leads =
-      subst (λ w. Works s (sort_by w c) t a) is (subst (λ p. Works s p t a) (sym (leaves_out v c there)) leads)
+  pub sorts_not : is_undefined v ≡ false → RefinesAlgorithm s sort_left_out t a → RefinesAlgorithm s (array_sort c) t a
+  sorts_not there refines =
+      subst (λ w. RefinesAlgorithm s (sort_by w c) t a) is
+      (subst (λ p. RefinesAlgorithm s p t a) (sym (leaves_out v c there)) refines)
 
 -- splice makes its array first
 pub splices : (s t u : State) (a : Act) (o id : ObjId) (args : List Value) → IsStored s t
-    → Comes new_array s.store t.store (Ends (gives id))
-    → Works t (get_length o >>= with_length (for_length.Splice id) o args) u a → Works s (splice_on o args) u a
-splices s t u a o id args stored comes leads =
+    → BigStep new_array s.store t.store (Ends (gives id))
+    → RefinesAlgorithm t (get_length o >>= with_length (for_length.Splice id) o args) u a
+    → RefinesAlgorithm s (splice_on o args) u a
+splices s t u a o id args stored comes refines =
     works_comes s t stored new_array id
-    (λ array. get_length o >>= λ length. with_length (for_length.Splice array) o args length) u a comes leads
+    (λ array. get_length o >>= λ length. with_length (for_length.Splice array) o args length) u a comes refines

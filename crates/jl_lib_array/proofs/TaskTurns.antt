@@ -22,7 +22,7 @@ use Rattle.jl_progress.specs.declared.array_call.Direction.{Direction}
 use Rattle.jl_progress.specs.declared.array_call.Direction.TheVariants as direction
 use Rattle.jl_progress.specs.declared.array_call.Task.{Task}
 use Rattle.jl_progress.specs.declared.array_call.Task.TheVariants as task
-use Rattle.jl_state.specs.Rest.{Works}
+use Rattle.jl_state.specs.Rest.{RefinesAlgorithm}
 use Rattle.jl_state.specs.Steps.{RanOut, Took}
 use Rattle.jl_state.specs.declared.act.Act.{Act}
 use Rattle.jl_state.specs.declared.act.Act.TheVariants as act
@@ -156,67 +156,74 @@ wanted_truth false = refl
 
 module _ (s : State) (w : Walk) (u : State) (a : Act) where
   pub task_over : (t : Task) (d : Direction) (at : ℕ) → d ≡ direction_of t → index_at d at w.length ≡ None
-      → Works s (task_end t) u a → Works s (turns t w at) u a
-  task_over t d at is none leads =
-      subst (λ p. Works s p u a) (over t w at (subst (λ e. index_at e at w.length ≡ None) is none)) leads
+      → RefinesAlgorithm s (task_end t) u a → RefinesAlgorithm s (turns t w at) u a
+  task_over t d at is none refines =
+      subst (λ p. RefinesAlgorithm s p u a) (over t w at (subst (λ e. index_at e at w.length ≡ None) is none)) refines
 
   pub turn_begins : (t : Task) (d : Direction) (at k : ℕ) (v : State) → d ≡ direction_of t
-      → index_at d at w.length ≡ Some k → Took s v → Works v (element w.object k >>= task_with t w k) u a
-      → Works s (turns t w at) u a
-  turn_begins t d at k v is there took leads =
-      subst (λ p. Works s p u a) (begins t w at k (subst (λ e. index_at e at w.length ≡ Some k) is there))
-      (took.works (element w.object k >>= task_with t w k) u a leads)
+      → index_at d at w.length ≡ Some k → Took s v → RefinesAlgorithm v (element w.object k >>= task_with t w k) u a
+      → RefinesAlgorithm s (turns t w at) u a
+  turn_begins t d at k v is there took refines =
+      subst (λ p. RefinesAlgorithm s p u a) (begins t w at k (subst (λ e. index_at e at w.length ≡ Some k) is there))
+      (took.works (element w.object k >>= task_with t w k) u a refines)
 
   pub element_passed : (t : Task) (d : Direction) (at k : ℕ) → d ≡ direction_of t → at ≡ next_place d k
-      → Works s (turns t w at) u a → Works s (task_with t w k None) u a
-  element_passed t d at k is place leads =
-      subst (λ p. Works s p u a) (passed t w k)
-      (subst (λ e. Works s (turns t w (next_place e k)) u a) is
-      (subst (λ n. Works s (turns t w n) u a) place leads))
+      → RefinesAlgorithm s (turns t w at) u a → RefinesAlgorithm s (task_with t w k None) u a
+  element_passed t d at k is place refines =
+      subst (λ p. RefinesAlgorithm s p u a) (passed t w k)
+      (subst (λ e. RefinesAlgorithm s (turns t w (next_place e k)) u a) is
+      (subst (λ n. RefinesAlgorithm s (turns t w n) u a) place refines))
 
   pub asks_for : (t : Task) (k : ℕ) (v : Value) → AsksFirst t
-      → Works s (called_with w k v >>= task_after t w k v) u a → Works s (task_with t w k (Some v)) u a
-  asks_for t k v first leads = subst (λ p. Works s p u a) (asks t w k v first) leads
+      → RefinesAlgorithm s (called_with w k v >>= task_after t w k v) u a
+      → RefinesAlgorithm s (task_with t w k (Some v)) u a
+  asks_for t k v first refines = subst (λ p. RefinesAlgorithm s p u a) (asks t w k v first) refines
 
   pub combines_with : (so_far v : Value) (d : Direction) (k : ℕ) (e : Value)
-      → Works s (call w.function value.Undefined (so_far ∷ v ∷ whole k ∷ value.Obj w.object ∷ [])
+      → RefinesAlgorithm s (call w.function value.Undefined (so_far ∷ v ∷ whole k ∷ value.Obj w.object ∷ [])
       >>= task_after (task.Reduce None d) w k e) u a
-      → Works s (task_with (task.Reduce (Some so_far) d) w k (Some v)) u a
-  combines_with so_far v d k e leads = subst (λ p. Works s p u a) (combines so_far v d w k e) leads
+      → RefinesAlgorithm s (task_with (task.Reduce (Some so_far) d) w k (Some v)) u a
+  combines_with so_far v d k e refines = subst (λ p. RefinesAlgorithm s p u a) (combines so_far v d w k e) refines
 
   pub any_passed : (wanted : Bool) (k at : ℕ) (v : Value) (b : Bool) → b ≡ truth_of v → (b ≡ wanted → ⊥) → at ≡ k + 1
-      → Works s (turns (task.Any wanted) w at) u a → Works s (any_with wanted w k (Some v)) u a
-  any_passed wanted k at v b is differs place leads =
-      subst (λ c. Works s (any_for wanted (if wanted then c else not c) w k) u a) is
-      (subst (λ c. Works s (any_for wanted c w k) u a) (sym (is_other wanted b differs))
-      (subst (λ n. Works s (turns (task.Any wanted) w n) u a) place leads))
+      → RefinesAlgorithm s (turns (task.Any wanted) w at) u a → RefinesAlgorithm s (any_with wanted w k (Some v)) u a
+  any_passed wanted k at v b is differs place refines =
+      subst (λ c. RefinesAlgorithm s (any_for wanted (if wanted then c else not c) w k) u a) is
+      (subst (λ c. RefinesAlgorithm s (any_for wanted c w k) u a) (sym (is_other wanted b differs))
+      (subst (λ n. RefinesAlgorithm s (turns (task.Any wanted) w n) u a) place refines))
 
   pub element_added : (a' : ObjId) (to k : ℕ) (v answer : Value) (b : Bool) → b ≡ truth_of answer → b ≡ true
-      → Works s (add_index a' to v >>= λ _. turns (task.Filter a' (to + 1)) w (k + 1)) u a
-      → Works s (task_after (task.Filter a' to) w k v answer) u a
-  element_added a' to k v answer b is so leads =
-      subst (λ c. Works s (add_chosen c a' to v >>= λ next. turns (task.Filter a' next) w (k + 1)) u a) (sym so ∙ is)
-      (subst (λ p. Works s p u a)
-      (sym (bind_assoc (add_index a' to v) (λ _. give (to + 1)) (λ next. turns (task.Filter a' next) w (k + 1)))) leads)
+      → RefinesAlgorithm s (add_index a' to v >>= λ _. turns (task.Filter a' (to + 1)) w (k + 1)) u a
+      → RefinesAlgorithm s (task_after (task.Filter a' to) w k v answer) u a
+  element_added a' to k v answer b is so refines =
+      subst (λ c. RefinesAlgorithm s (add_chosen c a' to v >>= λ next. turns (task.Filter a' next) w (k + 1)) u a)
+      (sym so ∙ is)
+      (subst (λ p. RefinesAlgorithm s p u a)
+      (sym (bind_assoc (add_index a' to v) (λ _. give (to + 1))
+      (λ next. turns (task.Filter a' next) w (k + 1)))) refines)
 
   pub element_left : (a' : ObjId) (to k at : ℕ) (v answer : Value) (b : Bool) → b ≡ truth_of answer → b ≡ false
-      → at ≡ k + 1 → Works s (turns (task.Filter a' to) w at) u a
-      → Works s (task_after (task.Filter a' to) w k v answer) u a
-  element_left a' to k at v answer b is so place leads =
-      subst (λ c. Works s (add_chosen c a' to v >>= λ next. turns (task.Filter a' next) w (k + 1)) u a) (sym so ∙ is)
-      (subst (λ n. Works s (turns (task.Filter a' to) w n) u a) place leads)
+      → at ≡ k + 1 → RefinesAlgorithm s (turns (task.Filter a' to) w at) u a
+      → RefinesAlgorithm s (task_after (task.Filter a' to) w k v answer) u a
+  element_left a' to k at v answer b is so place refines =
+      subst (λ c. RefinesAlgorithm s (add_chosen c a' to v >>= λ next. turns (task.Filter a' next) w (k + 1)) u a)
+      (sym so ∙ is)
+      (subst (λ n. RefinesAlgorithm s (turns (task.Filter a' to) w n) u a) place refines)
 
 pub turn_spent : (s v : State) (w : Walk) (t : Task) (d : Direction) (at k : ℕ) → d ≡ direction_of t
-    → index_at d at w.length ≡ Some k → v ≡ s → RanOut s → Works s (turns t w at) v act.Spent
+    → index_at d at w.length ≡ Some k → v ≡ s → RanOut s → RefinesAlgorithm s (turns t w at) v act.Spent
 turn_spent s v w t d at k is there same ran =
-    subst (λ (x : State). Works s (turns t w at) x act.Spent) (sym same)
-    (subst (λ p. Works s p s act.Spent) (begins t w at k (subst (λ e. index_at e at w.length ≡ Some k) is there))
+    subst (λ (x : State). RefinesAlgorithm s (turns t w at) x act.Spent) (sym same)
+    (subst (λ p. RefinesAlgorithm s p s act.Spent)
+    (begins t w at k (subst (λ e. index_at e at w.length ≡ Some k) is there))
     (ran.works (element w.object k >>= task_with t w k)))
 
 pub any_ends : (s : State) (w : Walk) (wanted : Bool) (k : ℕ) (v : Value) (b : Bool) → b ≡ truth_of v → b ≡ wanted
-    → Works s (any_with wanted w k (Some v)) s (act.Give (value.Bool wanted))
+    → RefinesAlgorithm s (any_with wanted w k (Some v)) s (act.Give (value.Bool wanted))
 any_ends s w wanted k v b is so =
-    subst (λ c. Works s (any_for wanted (if wanted then c else not c) w k) s (act.Give (value.Bool wanted))) is
-    (subst (λ c. Works s (any_for wanted c w k) s (act.Give (value.Bool wanted))) (sym (is_wanted wanted b so))
-    (subst (λ c. Works s (give_truth c) s (act.Give (value.Bool wanted))) (sym (wanted_truth wanted))
+    subst (λ c. RefinesAlgorithm s (any_for wanted (if wanted then c else not c) w k) s
+    (act.Give (value.Bool wanted))) is
+    (subst (λ c. RefinesAlgorithm s (any_for wanted c w k) s (act.Give (value.Bool wanted)))
+    (sym (is_wanted wanted b so))
+    (subst (λ c. RefinesAlgorithm s (give_truth c) s (act.Give (value.Bool wanted))) (sym (wanted_truth wanted))
     (record { is = λ kept told. refl })))

@@ -3,7 +3,7 @@ use Rattle.std.proofs.Common.{◌≡◌, ◌+◌, ◌∷◌, arith, subst, ℕ}
 use Rattle.jl_progress.specs.Arrays.{rank_array}
 use Rattle.jl_progress.specs.declared.array.ArrayProgress.{ArrayProgress}
 use Rattle.jl_progress.specs.declared.progress.Progress.TheVariants as progress
-use Rattle.jl_state.specs.Rank.{Falls}
+use Rattle.jl_state.specs.Rank.{RankedBelow}
 use Rattle.jl_state.specs.declared.act.Act.{Act}
 use Rattle.jl_state.specs.declared.algorithm_frame.AlgorithmFrame.TheVariants as algorithm
 use Rattle.jl_state.specs.declared.frame.Frame.TheVariants as frame
@@ -11,7 +11,7 @@ use Rattle.jl_state.specs.declared.state.State.{State}
 
 pub falls_waiting : (s t u : State) (a : Act) (p : ArrayProgress) (n : ℕ)
     → t ≡ record s { stack = frame.Algorithm (algorithm.Builtin (progress.Array p)) ∷ s.stack }
-    → Falls t n u a → Falls s (rank_array p + n) u a
-falls_waiting s t u a p n pushed falls =
-    let before = subst (λ (w : State). Falls w n u a) pushed falls in
+    → RankedBelow t n u a → RankedBelow s (rank_array p + n) u a
+falls_waiting s t u a p n pushed bounded =
+    let before = subst (λ (w : State). RankedBelow w n u a) pushed bounded in
     record { left = before.left; lower = λ same. omega (arith, before.lower same) }

@@ -24,8 +24,8 @@ use jl_value::{Class, Completion, ObjId, Value};
 
 /// `concat` begins.
 pub(crate) fn array_concat<'p>(state: &mut State<'p>, call: Invocation) -> Result<Act<'p>, NoMemory>
-    ensures leads { Computes state.old (array_concat (call_of call)) result state.new }
-    ensures falls { RankAtMost state.old 8 result state.new }
+    ensures refines { Computes state.old (array_concat (call_of call)) result state.new }
+    ensures bounded { RankAtMost state.old 8 result state.new }
 {
     let answer = state.store.to_object(&call.this)?;
     match answer {
@@ -36,8 +36,8 @@ pub(crate) fn array_concat<'p>(state: &mut State<'p>, call: Invocation) -> Resul
 
 /// `concat` of an object and arguments.
 fn concat<'p>(state: &mut State<'p>, object: ObjId, args: &[Value]) -> Result<Act<'p>, NoMemory>
-    ensures leads { Computes state.old (concat_on object args.now) result state.new }
-    ensures falls { RankAtMost state.old 8 result state.new }
+    ensures refines { Computes state.old (concat_on object args.now) result state.new }
+    ensures bounded { RankAtMost state.old 8 result state.new }
 {
     let alloc = state.alloc();
     let array = state.store.new_array()?;
@@ -55,9 +55,9 @@ pub(crate) fn append_items<'p>(
     values: List<Value>,
     from: usize,
 ) -> Result<Act<'p>, NoMemory>
-    ensures leads { Computes state.old (append_all array next (drop from values) then λ _. give_object array) result
+    ensures refines { Computes state.old (append_all array next (drop from values) then λ _. give_object array) result
         state.new }
-    ensures falls { RankAtMost state.old 8 result state.new }
+    ensures bounded { RankAtMost state.old 8 result state.new }
 {
     let alloc = state.alloc();
     match value_from(alloc, values.items(), from)? {
@@ -80,9 +80,9 @@ fn append_item<'p>(
     items: List<Value>,
     from: usize,
 ) -> Result<Act<'p>, NoMemory>
-    ensures leads { Computes state.old (append array next v then λ m. append_all array m (drop from items) then λ _.
+    ensures refines { Computes state.old (append array next v then λ m. append_all array m (drop from items) then λ _.
         give_object array) result state.new }
-    ensures falls { RankAtMost state.old 100 result state.new }
+    ensures bounded { RankAtMost state.old 100 result state.new }
 {
     if let Some(item) = array_item(&state.store, &v) {
         let progress = ArrayProgress::ConcatLength {
@@ -121,8 +121,8 @@ fn get_length<'p>(
     item: ObjId,
     progress: ArrayProgress,
 ) -> Result<Act<'p>, NoMemory>
-    ensures leads { Computes state.old (get (value.Obj item) length_name then array_after progress) result state.new }
-    ensures falls { RankAtMost state.old (rank_array progress + 4) result state.new }
+    ensures refines { Computes state.old (get (value.Obj item) length_name then array_after progress) result state.new }
+    ensures bounded { RankAtMost state.old (rank_array progress + 4) result state.new }
 {
     let alloc = state.alloc();
     wait(state, progress)?;
@@ -140,9 +140,9 @@ pub(crate) fn step_concat_length<'p>(
     from: usize,
     v: &Value,
 ) -> Result<Act<'p>, NoMemory>
-    ensures leads { Computes state.old (array_after (ArrayProgress.ConcatLength array next item items from) v.now)
+    ensures refines { Computes state.old (array_after (ArrayProgress.ConcatLength array next item items from) v.now)
         result state.new }
-    ensures falls { RankAtMost state.old 92 result state.new }
+    ensures bounded { RankAtMost state.old 92 result state.new }
 {
     let left = count_of(v);
     let after = sum(next, left)?;

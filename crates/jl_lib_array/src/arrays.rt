@@ -8,7 +8,7 @@ ghost use Rattle.jl_num.specs.Bits.{uint32_of};
 ghost use Rattle.jl_state.specs.Clauses.{Computes, RankAtMost};
 ghost use Rattle.jl_state.specs.Words.{call_of};
 ghost use Rattle.jl_store.specs.Answers.{finish_of};
-ghost use Rattle.jl_store.specs.Comes.{Comes};
+ghost use Rattle.jl_store.specs.BigStep.{BigStep};
 ghost use Rattle.jl_value.specs.Same.{same_number};
 ghost use Rattle.jl_value.specs.declared.value.Value.TheVariants as value;
 
@@ -26,8 +26,8 @@ pub(crate) fn array_constructor<'p>(
     state: &mut State<'p>,
     args: &[Value],
 ) -> Result<Act<'p>, NoMemory>
-    ensures leads { Computes state.old (array_by args.now) result state.new }
-    ensures falls { RankAtMost state.old 3 result state.new }
+    ensures refines { Computes state.old (array_by args.now) result state.new }
+    ensures bounded { RankAtMost state.old 3 result state.new }
 {
     let number = only_number(args);
     match number {
@@ -58,8 +58,8 @@ fn number_in(v: &Value) -> Option<Num>
 
 /// An array with this length, which throws a RangeError where the number is none (15.4.2.2).
 fn array_of_number<'p>(state: &mut State<'p>, n: Num) -> Result<Act<'p>, NoMemory>
-    ensures leads { Computes state.old (array_of_one (value.Num n)) result state.new }
-    ensures falls { RankAtMost state.old 3 result state.new }
+    ensures refines { Computes state.old (array_of_one (value.Num n)) result state.new }
+    ensures bounded { RankAtMost state.old 3 result state.new }
 {
     let alloc = state.alloc();
     if !is_length(n) {
@@ -82,8 +82,8 @@ fn is_length(n: Num) -> bool
 
 /// An array with these elements (15.4.2.1).
 fn array_of_values<'p>(state: &mut State<'p>, values: &[Value]) -> Result<Act<'p>, NoMemory>
-    ensures leads { Computes state.old (array_of_values values.now) result state.new }
-    ensures falls { RankAtMost state.old 3 result state.new }
+    ensures refines { Computes state.old (array_of_values values.now) result state.new }
+    ensures bounded { RankAtMost state.old 3 result state.new }
 {
     let alloc = state.alloc();
     let array = state.store.new_array()?;
@@ -102,7 +102,7 @@ fn add_all(
     array: ObjId,
     values: &[Value],
 ) -> Result<Finished<()>, NoMemory>
-    ensures { IfOk result (λ end. Comes (add_all array 0 values.now) store.old store.new (finish_of end)) }
+    ensures { IfOk result (λ end. BigStep (add_all array 0 values.now) store.old store.new (finish_of end)) }
 {
     for index in 0..values.len() {
         let v = share(alloc, &values[index])?;
@@ -122,7 +122,7 @@ pub(crate) fn array_of_length(
     store: &mut Store,
     length: Num,
 ) -> Result<Finished<ObjId>, NoMemory>
-    ensures { IfOk result (λ end. Comes (array_of_length (value.Num length)) store.old store.new (finish_of end)) }
+    ensures { IfOk result (λ end. BigStep (array_of_length (value.Num length)) store.old store.new (finish_of end)) }
 {
     let array = store.new_array()?;
     let name = word(alloc, "length")?;
@@ -140,8 +140,8 @@ pub(crate) fn array_is_array<'p>(
     state: &mut State<'p>,
     call: &Invocation,
 ) -> Result<Act<'p>, NoMemory>
-    ensures leads { Computes state.old (array_is_array (call_of call.now)) result state.new }
-    ensures falls { RankAtMost state.old 3 result state.new }
+    ensures refines { Computes state.old (array_is_array (call_of call.now)) result state.new }
+    ensures bounded { RankAtMost state.old 3 result state.new }
 {
     let alloc = state.alloc();
     let v = argument(alloc, call.args.items(), 0)?;

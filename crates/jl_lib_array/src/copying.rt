@@ -21,9 +21,9 @@ pub(crate) fn copy_turn<'p>(
     copying: Copying,
     next: AfterCopying,
 ) -> Result<Act<'p>, NoMemory>
-    ensures leads { Computes state.old (copy_others copying copying.left copying.k then λ _. after_copying
+    ensures refines { Computes state.old (copy_others copying copying.left copying.k then λ _. after_copying
         copying.array next) result state.new }
-    ensures falls { RankAtMost state.old 82 result state.new }
+    ensures bounded { RankAtMost state.old 82 result state.new }
 {
     if copying.left == 0 {
         return after_copying(state, copying.array, next);
@@ -41,10 +41,10 @@ fn copy_element<'p>(
     copying: Copying,
     next: AfterCopying,
 ) -> Result<Act<'p>, NoMemory>
-    ensures leads { Computes state.old (copy_element copying.object (copying.start + copying.k) copying.array
+    ensures refines { Computes state.old (copy_element copying.object (copying.start + copying.k) copying.array
         (copying.first + copying.k) then λ _. copy_others copying copying.left (copying.k + 1) then λ _.
         after_copying copying.array next) result state.new }
-    ensures falls { RankAtMost state.old 100 result state.new }
+    ensures bounded { RankAtMost state.old 100 result state.new }
 {
     let alloc = state.alloc();
     let object = copying.object;
@@ -73,8 +73,8 @@ pub(crate) fn step_copy_element<'p>(
     next: AfterCopying,
     v: Value,
 ) -> Result<Act<'p>, NoMemory>
-    ensures leads { Computes state.old (array_after (ArrayProgress.CopyElement copying next) v) result state.new }
-    ensures falls { RankAtMost state.old 92 result state.new }
+    ensures refines { Computes state.old (array_after (ArrayProgress.CopyElement copying next) v) result state.new }
+    ensures bounded { RankAtMost state.old 92 result state.new }
 {
     let array = copying.array;
     let index = sum(copying.first, copying.k)?;
@@ -93,8 +93,8 @@ fn after_copying<'p>(
     array: ObjId,
     next: AfterCopying,
 ) -> Result<Act<'p>, NoMemory>
-    ensures leads { Computes state.old (after_copying array next) result state.new }
-    ensures falls { RankAtMost state.old 82 result state.new }
+    ensures refines { Computes state.old (after_copying array next) result state.new }
+    ensures bounded { RankAtMost state.old 82 result state.new }
 {
     match next {
         AfterCopying::Concat { next, items, from } => {

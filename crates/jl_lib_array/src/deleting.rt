@@ -19,9 +19,9 @@ pub(crate) fn delete_up_turn<'p>(
     index: usize,
     left: usize,
 ) -> Result<Act<'p>, NoMemory>
-    ensures leads { Computes state.old (array_after (ArrayProgress.DeleteUp object index left) value.Undefined)
+    ensures refines { Computes state.old (array_after (ArrayProgress.DeleteUp object index left) value.Undefined)
         result state.new }
-    ensures falls { RankAtMost state.old 8 result state.new }
+    ensures bounded { RankAtMost state.old 8 result state.new }
 {
     if left == 0 {
         return Ok(Act::Give(Value::Obj(object)));
@@ -44,8 +44,8 @@ pub(crate) fn delete_down_turn<'p>(
     splicing: Splicing,
     left: usize,
 ) -> Result<Act<'p>, NoMemory>
-    ensures leads { Computes state.old (delete_end splicing left) result state.new }
-    ensures falls { RankAtMost state.old 62 result state.new }
+    ensures refines { Computes state.old (delete_end splicing left) result state.new }
+    ensures bounded { RankAtMost state.old 62 result state.new }
 {
     if left == 0 {
         return put_items(state, splicing);

@@ -30,8 +30,8 @@ pub(crate) fn begin_turn<'p>(
     state: &mut State<'p>,
     progress: ArrayProgress,
 ) -> Result<Act<'p>, NoMemory>
-    ensures leads { Computes state.old (array_after progress value.Undefined) result state.new }
-    ensures falls { RankAtMost state.old (rank_array progress + 3) result state.new }
+    ensures refines { Computes state.old (array_after progress value.Undefined) result state.new }
+    ensures bounded { RankAtMost state.old (rank_array progress + 3) result state.new }
 {
     go_on(state, Progress::Array(progress))
 }
@@ -43,8 +43,8 @@ pub(crate) fn get_for<'p>(
     index: usize,
     progress: ArrayProgress,
 ) -> Result<Act<'p>, NoMemory>
-    ensures leads { Computes state.old (get_index object index then array_after progress) result state.new }
-    ensures falls { RankAtMost state.old (rank_array progress + 4) result state.new }
+    ensures refines { Computes state.old (get_index object index then array_after progress) result state.new }
+    ensures bounded { RankAtMost state.old (rank_array progress + 4) result state.new }
 {
     wait(state, progress)?;
     get_index(state, object, index)
@@ -58,9 +58,9 @@ pub(crate) fn put_then<'p>(
     v: Value,
     progress: ArrayProgress,
 ) -> Result<Act<'p>, NoMemory>
-    ensures leads { Computes state.old (put_index object index v then λ _. array_after progress value.Undefined)
+    ensures refines { Computes state.old (put_index object index v then λ _. array_after progress value.Undefined)
         result state.new }
-    ensures falls { RankAtMost state.old (rank_array progress + 42) result state.new }
+    ensures bounded { RankAtMost state.old (rank_array progress + 42) result state.new }
 {
     wait(state, progress)?;
     put_index(state, object, index, v, Value::Undefined)
@@ -73,9 +73,9 @@ pub(crate) fn delete_then<'p>(
     index: usize,
     progress: ArrayProgress,
 ) -> Result<Act<'p>, NoMemory>
-    ensures leads { Computes state.old (delete_index object index then λ _. array_after progress value.Undefined)
+    ensures refines { Computes state.old (delete_index object index then λ _. array_after progress value.Undefined)
         result state.new }
-    ensures falls { RankAtMost state.old (rank_array progress + 3) result state.new }
+    ensures bounded { RankAtMost state.old (rank_array progress + 3) result state.new }
 {
     wait(state, progress)?;
     delete_element(state, object, index)
@@ -87,8 +87,8 @@ fn delete_element<'p>(
     object: ObjId,
     index: usize,
 ) -> Result<Act<'p>, NoMemory>
-    ensures leads { Computes state.old (delete_index object index then λ _. give value.Undefined) result state.new }
-    ensures falls { RankAtMost state.old 3 result state.new }
+    ensures refines { Computes state.old (delete_index object index then λ _. give value.Undefined) result state.new }
+    ensures bounded { RankAtMost state.old 3 result state.new }
 {
     let answer = delete_index(state, object, index)?;
     match answer {
@@ -105,9 +105,9 @@ pub(crate) fn add_then<'p>(
     v: Value,
     progress: ArrayProgress,
 ) -> Result<Act<'p>, NoMemory>
-    ensures leads { Computes state.old (add_index array index v then λ _. array_after progress value.Undefined)
+    ensures refines { Computes state.old (add_index array index v then λ _. array_after progress value.Undefined)
         result state.new }
-    ensures falls { RankAtMost state.old (rank_array progress + 3) result state.new }
+    ensures bounded { RankAtMost state.old (rank_array progress + 3) result state.new }
 {
     wait(state, progress)?;
     add_element(state, array, index, v)
@@ -120,8 +120,8 @@ fn add_element<'p>(
     index: usize,
     v: Value,
 ) -> Result<Act<'p>, NoMemory>
-    ensures leads { Computes state.old (add_index array index v then λ _. give value.Undefined) result state.new }
-    ensures falls { RankAtMost state.old 3 result state.new }
+    ensures refines { Computes state.old (add_index array index v then λ _. give value.Undefined) result state.new }
+    ensures bounded { RankAtMost state.old 3 result state.new }
 {
     let alloc = state.alloc();
     let answer = add_index(alloc, &mut state.store, array, index, v)?;

@@ -30,8 +30,8 @@ pub(crate) fn join<'p>(
     args: &[Value],
     length: usize,
 ) -> Result<Act<'p>, NoMemory>
-    ensures leads { Computes state.old (with_length LengthFunction.Join object args.now length) result state.new }
-    ensures falls { RankAtMost state.old 60 result state.new }
+    ensures refines { Computes state.old (with_length LengthFunction.Join object args.now length) result state.new }
+    ensures bounded { RankAtMost state.old 60 result state.new }
 {
     let alloc = state.alloc();
     let separator = argument(alloc, args, 0)?;
@@ -50,9 +50,9 @@ pub(crate) fn step_join_separator<'p>(
     length: usize,
     p: &Value,
 ) -> Result<Act<'p>, NoMemory>
-    ensures leads { Computes state.old (array_after (ArrayProgress.JoinSeparator object length) p.now) result
+    ensures refines { Computes state.old (array_after (ArrayProgress.JoinSeparator object length) p.now) result
         state.new }
-    ensures falls { RankAtMost state.old 42 result state.new }
+    ensures bounded { RankAtMost state.old 42 result state.new }
 {
     let alloc = state.alloc();
     let separator = text_of(alloc, p)?;
@@ -66,8 +66,8 @@ fn join_elements<'p>(
     length: usize,
     separator: Text,
 ) -> Result<Act<'p>, NoMemory>
-    ensures leads { Computes state.old (join_elements object length separator) result state.new }
-    ensures falls { RankAtMost state.old 34 result state.new }
+    ensures refines { Computes state.old (join_elements object length separator) result state.new }
+    ensures bounded { RankAtMost state.old 34 result state.new }
 {
     let alloc = state.alloc();
     if length == 0 {
@@ -89,8 +89,8 @@ pub(crate) fn step_join_first<'p>(
     joining: Joining,
     v: Value,
 ) -> Result<Act<'p>, NoMemory>
-    ensures leads { Computes state.old (array_after (ArrayProgress.JoinFirst joining) v) result state.new }
-    ensures falls { RankAtMost state.old 32 result state.new }
+    ensures refines { Computes state.old (array_after (ArrayProgress.JoinFirst joining) v) result state.new }
+    ensures bounded { RankAtMost state.old 32 result state.new }
 {
     let alloc = state.alloc();
     if is_nothing(&v) {
@@ -107,9 +107,9 @@ pub(crate) fn step_join_first_primitive<'p>(
     joining: Joining,
     p: &Value,
 ) -> Result<Act<'p>, NoMemory>
-    ensures leads { Computes state.old (array_after (ArrayProgress.JoinFirstPrimitive joining) p.now) result
+    ensures refines { Computes state.old (array_after (ArrayProgress.JoinFirstPrimitive joining) p.now) result
         state.new }
-    ensures falls { RankAtMost state.old 12 result state.new }
+    ensures bounded { RankAtMost state.old 12 result state.new }
 {
     let alloc = state.alloc();
     let first = text_of(alloc, p)?;
@@ -118,8 +118,8 @@ pub(crate) fn step_join_first_primitive<'p>(
 
 /// The line begins with the string of the first element.
 fn join_first<'p>(state: &mut State<'p>, joining: Joining, first: Text) -> Result<Act<'p>, NoMemory>
-    ensures leads { Computes state.old (join_first joining first) result state.new }
-    ensures falls { RankAtMost state.old 12 result state.new }
+    ensures refines { Computes state.old (join_first joining first) result state.new }
+    ensures bounded { RankAtMost state.old 12 result state.new }
 {
     let alloc = state.alloc();
     let line = with_units(List::new(alloc), first.units())?;
@@ -132,8 +132,8 @@ pub(crate) fn join_turn_begins<'p>(
     joining: Joining,
     line: List<u16>,
 ) -> Result<Act<'p>, NoMemory>
-    ensures leads { Computes state.old (join_others joining line) result state.new }
-    ensures falls { RankAtMost state.old 8 result state.new }
+    ensures refines { Computes state.old (join_others joining line) result state.new }
+    ensures bounded { RankAtMost state.old 8 result state.new }
 {
     let alloc = state.alloc();
     if joining.left == 0 {
@@ -154,9 +154,9 @@ fn join_one<'p>(
     joining: Joining,
     line: List<u16>,
 ) -> Result<Act<'p>, NoMemory>
-    ensures leads { Computes state.old (join_turn joining.object joining.separator index line then join_others
+    ensures refines { Computes state.old (join_turn joining.object joining.separator index line then join_others
         joining) result state.new }
-    ensures falls { RankAtMost state.old 34 result state.new }
+    ensures bounded { RankAtMost state.old 34 result state.new }
 {
     let object = joining.object;
     let separator = joining.separator.units();
@@ -175,8 +175,8 @@ pub(crate) fn step_join_element<'p>(
     line: List<u16>,
     v: Value,
 ) -> Result<Act<'p>, NoMemory>
-    ensures leads { Computes state.old (array_after (ArrayProgress.JoinElement joining line) v) result state.new }
-    ensures falls { RankAtMost state.old 32 result state.new }
+    ensures refines { Computes state.old (array_after (ArrayProgress.JoinElement joining line) v) result state.new }
+    ensures bounded { RankAtMost state.old 32 result state.new }
 {
     if is_nothing(&v) {
         return join_next(state, joining, line, &[]);
@@ -192,9 +192,9 @@ pub(crate) fn step_join_element_primitive<'p>(
     line: List<u16>,
     p: &Value,
 ) -> Result<Act<'p>, NoMemory>
-    ensures leads { Computes state.old (array_after (ArrayProgress.JoinElementPrimitive joining line) p.now) result
+    ensures refines { Computes state.old (array_after (ArrayProgress.JoinElementPrimitive joining line) p.now) result
         state.new }
-    ensures falls { RankAtMost state.old 12 result state.new }
+    ensures bounded { RankAtMost state.old 12 result state.new }
 {
     let alloc = state.alloc();
     let next = text_of(alloc, p)?;
@@ -208,8 +208,8 @@ fn join_next<'p>(
     line: List<u16>,
     next: &[u16],
 ) -> Result<Act<'p>, NoMemory>
-    ensures leads { Computes state.old (join_next joining line next.now) result state.new }
-    ensures falls { RankAtMost state.old 12 result state.new }
+    ensures refines { Computes state.old (join_next joining line next.now) result state.new }
+    ensures bounded { RankAtMost state.old 12 result state.new }
 {
     if !has_room(line.len(), next.len()) {
         return Ok(Act::Fault(Fault::StringTooLong));

@@ -6,7 +6,7 @@ ghost use Rattle.jl_meaning.specs.Parts.{◌>>=◌ as ◌then◌};
 ghost use Rattle.jl_meaning.specs.builtins.Elements.{get_length};
 ghost use Rattle.jl_progress.specs.Arrays.{array_after, with_length};
 ghost use Rattle.jl_state.specs.Clauses.{Computes, RankAtMost};
-ghost use Rattle.jl_state.specs.Rest.{Works};
+ghost use Rattle.jl_state.specs.Rest.{RefinesAlgorithm};
 ghost use Rattle.jl_state.specs.Words.{call_of};
 ghost use Rattle.jl_value.specs.declared.value.Value.{Value as AnyValue};
 
@@ -31,8 +31,8 @@ pub(crate) fn begin_with_length<'p>(
     function: LengthFunction,
     call: Invocation,
 ) -> Result<Act<'p>, NoMemory>
-    ensures leads { Computes state.old (change_call function (call_of call)) result state.new }
-    ensures falls { RankAtMost state.old 164 result state.new }
+    ensures refines { Computes state.old (change_call function (call_of call)) result state.new }
+    ensures bounded { RankAtMost state.old 164 result state.new }
 {
     let Invocation { this, args, .. } = call;
     let answer = state.store.to_object(&this)?;
@@ -49,8 +49,8 @@ pub(crate) fn get_length<'p>(
     object: ObjId,
     args: List<Value>,
 ) -> Result<Act<'p>, NoMemory>
-    ensures leads { Computes state.old (get_length object then with_length function object args) result state.new }
-    ensures falls { RankAtMost state.old 164 result state.new }
+    ensures refines { Computes state.old (get_length object then with_length function object args) result state.new }
+    ensures bounded { RankAtMost state.old 164 result state.new }
 {
     let alloc = state.alloc();
     let name = word(alloc, "length")?;
@@ -73,8 +73,8 @@ pub(crate) fn step_length<'p>(
     args: List<Value>,
     v: Value,
 ) -> Result<Act<'p>, NoMemory>
-    ensures leads { Computes state.old (array_after (ArrayProgress.Length function object args) v) result state.new }
-    ensures falls { RankAtMost state.old 162 result state.new }
+    ensures refines { Computes state.old (array_after (ArrayProgress.Length function object args) v) result state.new }
+    ensures bounded { RankAtMost state.old 162 result state.new }
 {
     let progress = Progress::Array(ArrayProgress::LengthPrimitive {
         function,
@@ -92,9 +92,9 @@ pub(crate) fn step_length_primitive<'p>(
     args: List<Value>,
     p: &Value,
 ) -> Result<Act<'p>, NoMemory>
-    ensures leads { Computes state.old (array_after (ArrayProgress.LengthPrimitive function object args) p.now)
+    ensures refines { Computes state.old (array_after (ArrayProgress.LengthPrimitive function object args) p.now)
         result state.new }
-    ensures falls { RankAtMost state.old 144 result state.new }
+    ensures bounded { RankAtMost state.old 144 result state.new }
 {
     let Some(n) = number_of_primitive(p) else {
         return Ok(Act::Fault(Fault::NumberOutside));
@@ -110,8 +110,8 @@ fn with_length<'p>(
     args: List<Value>,
     length: usize,
 ) -> Result<Act<'p>, NoMemory>
-    ensures leads { Computes state.old (with_length function object args length) result state.new }
-    ensures falls { RankAtMost state.old 144 result state.new }
+    ensures refines { Computes state.old (with_length function object args length) result state.new }
+    ensures bounded { RankAtMost state.old 144 result state.new }
 {
     match function {
         LengthFunction::Join => join(state, object, args.items(), length),
@@ -132,8 +132,8 @@ fn push<'p>(
     args: List<Value>,
     length: usize,
 ) -> Result<Act<'p>, NoMemory>
-    ensures leads { Computes state.old (with_length LengthFunction.Push object args length) result state.new }
-    ensures falls { RankAtMost state.old 144 result state.new }
+    ensures refines { Computes state.old (with_length LengthFunction.Push object args length) result state.new }
+    ensures bounded { RankAtMost state.old 144 result state.new }
 {
     let progress = ArrayProgress::PutTurn {
         object,
@@ -147,9 +147,9 @@ fn push<'p>(
 
 /// `reverse` of an object with this length (15.4.4.8).
 fn reverse<'p>(state: &mut State<'p>, object: ObjId, length: usize) -> Result<Act<'p>, NoMemory>
-    ensures leads { IfOk result (λ act. (args : List AnyValue) → Works state.old
+    ensures refines { IfOk result (λ act. (args : List AnyValue) → RefinesAlgorithm state.old
         (with_length LengthFunction.Reverse object args length) state.new act) }
-    ensures falls { RankAtMost state.old 144 result state.new }
+    ensures bounded { RankAtMost state.old 144 result state.new }
 {
     let reversing = Reversing {
         object,
@@ -162,9 +162,9 @@ fn reverse<'p>(state: &mut State<'p>, object: ObjId, length: usize) -> Result<Ac
 
 /// `sort` of an object with this length (15.4.4.11).
 fn sort<'p>(state: &mut State<'p>, object: ObjId, length: usize) -> Result<Act<'p>, NoMemory>
-    ensures leads { IfOk result (λ act. (args : List AnyValue) → Works state.old
+    ensures refines { IfOk result (λ act. (args : List AnyValue) → RefinesAlgorithm state.old
         (with_length LengthFunction.Sort object args length) state.new act) }
-    ensures falls { RankAtMost state.old 144 result state.new }
+    ensures bounded { RankAtMost state.old 144 result state.new }
 {
     let alloc = state.alloc();
     let reading = Reading {
@@ -184,8 +184,8 @@ fn unshift<'p>(
     args: List<Value>,
     length: usize,
 ) -> Result<Act<'p>, NoMemory>
-    ensures leads { Computes state.old (with_length LengthFunction.Unshift object args length) result state.new }
-    ensures falls { RankAtMost state.old 144 result state.new }
+    ensures refines { Computes state.old (with_length LengthFunction.Unshift object args length) result state.new }
+    ensures bounded { RankAtMost state.old 144 result state.new }
 {
     let added = args.len();
     let after = sum(length, added)?;

@@ -22,9 +22,9 @@ pub(crate) fn move_up_turn<'p>(
     k: usize,
     next: AfterMoving,
 ) -> Result<Act<'p>, NoMemory>
-    ensures leads { Computes state.old (move_up moving moving.left k then λ _. after_moving moving.object next)
+    ensures refines { Computes state.old (move_up moving moving.left k then λ _. after_moving moving.object next)
         result state.new }
-    ensures falls { RankAtMost state.old 72 result state.new }
+    ensures bounded { RankAtMost state.old 72 result state.new }
 {
     if moving.left == 0 {
         return after_moving(state, moving.object, next);
@@ -43,9 +43,9 @@ fn move_one_up<'p>(
     k: usize,
     next: AfterMoving,
 ) -> Result<Act<'p>, NoMemory>
-    ensures leads { Computes state.old (move_element moving.object (k + moving.from) (k + moving.to) then λ _.
+    ensures refines { Computes state.old (move_element moving.object (k + moving.from) (k + moving.to) then λ _.
         move_up moving moving.left (k + 1) then λ _. after_moving moving.object next) result state.new }
-    ensures falls { RankAtMost state.old 124 result state.new }
+    ensures bounded { RankAtMost state.old 124 result state.new }
 {
     let alloc = state.alloc();
     let object = moving.object;
@@ -76,8 +76,8 @@ pub(crate) fn step_move_up_element<'p>(
     next: AfterMoving,
     v: Value,
 ) -> Result<Act<'p>, NoMemory>
-    ensures leads { Computes state.old (array_after (ArrayProgress.MoveUpElement moving k next) v) result state.new }
-    ensures falls { RankAtMost state.old 122 result state.new }
+    ensures refines { Computes state.old (array_after (ArrayProgress.MoveUpElement moving k next) v) result state.new }
+    ensures bounded { RankAtMost state.old 122 result state.new }
 {
     let object = moving.object;
     let to = sum(k, moving.to)?;
@@ -96,9 +96,9 @@ pub(crate) fn move_down_turn<'p>(
     moving: Moving,
     next: AfterMoving,
 ) -> Result<Act<'p>, NoMemory>
-    ensures leads { Computes state.old (move_down moving moving.left then λ _. after_moving moving.object next)
+    ensures refines { Computes state.old (move_down moving moving.left then λ _. after_moving moving.object next)
         result state.new }
-    ensures falls { RankAtMost state.old 72 result state.new }
+    ensures bounded { RankAtMost state.old 72 result state.new }
 {
     if moving.left == 0 {
         return after_moving(state, moving.object, next);
@@ -116,10 +116,10 @@ fn move_one_down<'p>(
     moving: Moving,
     next: AfterMoving,
 ) -> Result<Act<'p>, NoMemory>
-    ensures leads { Computes state.old (move_element moving.object (moving.from + moving.left) (moving.to +
+    ensures refines { Computes state.old (move_element moving.object (moving.from + moving.left) (moving.to +
         moving.left) then λ _. move_down moving moving.left then λ _. after_moving moving.object next) result
         state.new }
-    ensures falls { RankAtMost state.old 124 result state.new }
+    ensures bounded { RankAtMost state.old 124 result state.new }
 {
     let alloc = state.alloc();
     let object = moving.object;
@@ -140,8 +140,8 @@ pub(crate) fn step_move_down_element<'p>(
     next: AfterMoving,
     v: Value,
 ) -> Result<Act<'p>, NoMemory>
-    ensures leads { Computes state.old (array_after (ArrayProgress.MoveDownElement moving next) v) result state.new }
-    ensures falls { RankAtMost state.old 122 result state.new }
+    ensures refines { Computes state.old (array_after (ArrayProgress.MoveDownElement moving next) v) result state.new }
+    ensures bounded { RankAtMost state.old 122 result state.new }
 {
     let object = moving.object;
     let to = sum(moving.to, moving.left)?;
@@ -155,8 +155,8 @@ fn after_moving<'p>(
     object: ObjId,
     next: AfterMoving,
 ) -> Result<Act<'p>, NoMemory>
-    ensures leads { Computes state.old (after_moving object next) result state.new }
-    ensures falls { RankAtMost state.old 72 result state.new }
+    ensures refines { Computes state.old (after_moving object next) result state.new }
+    ensures bounded { RankAtMost state.old 72 result state.new }
 {
     match next {
         AfterMoving::Shift { first, last } => { without_last(state, object, last, first) }

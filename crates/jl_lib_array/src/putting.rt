@@ -23,8 +23,8 @@ pub(crate) fn put_turn<'p>(
     from: usize,
     next: AfterPutting,
 ) -> Result<Act<'p>, NoMemory>
-    ensures leads { Computes state.old (put_others object index (drop from values) next) result state.new }
-    ensures falls { RankAtMost state.old 52 result state.new }
+    ensures refines { Computes state.old (put_others object index (drop from values) next) result state.new }
+    ensures bounded { RankAtMost state.old 52 result state.new }
 {
     let alloc = state.alloc();
     match value_from(alloc, values.items(), from)? {
@@ -48,9 +48,9 @@ fn put_value<'p>(
     from: usize,
     next: AfterPutting,
 ) -> Result<Act<'p>, NoMemory>
-    ensures leads { Computes state.old (put_index object index v then λ _. put_others object (index + 1) (drop from
+    ensures refines { Computes state.old (put_index object index v then λ _. put_others object (index + 1) (drop from
         values) next) result state.new }
-    ensures falls { RankAtMost state.old 100 result state.new }
+    ensures bounded { RankAtMost state.old 100 result state.new }
 {
     let after = sum(index, 1)?;
     let progress = ArrayProgress::PutTurn {
@@ -70,8 +70,8 @@ fn after_putting<'p>(
     index: usize,
     next: AfterPutting,
 ) -> Result<Act<'p>, NoMemory>
-    ensures leads { Computes state.old (after_putting object next index) result state.new }
-    ensures falls { RankAtMost state.old 52 result state.new }
+    ensures refines { Computes state.old (after_putting object next index) result state.new }
+    ensures bounded { RankAtMost state.old 52 result state.new }
 {
     match next {
         AfterPutting::Push => give_length(state, object, index),
@@ -93,8 +93,8 @@ fn after_putting<'p>(
 
 /// A length is put, and then given.
 fn give_length<'p>(state: &mut State<'p>, object: ObjId, length: usize) -> Result<Act<'p>, NoMemory>
-    ensures leads { Computes state.old (give_length object length) result state.new }
-    ensures falls { RankAtMost state.old 42 result state.new }
+    ensures refines { Computes state.old (give_length object length) result state.new }
+    ensures bounded { RankAtMost state.old 42 result state.new }
 {
     let gives = count(length)?;
     put_length(state, object, length, gives)

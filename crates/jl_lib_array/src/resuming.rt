@@ -31,8 +31,8 @@ pub fn resume<'p>(
     progress: ArrayProgress,
     v: Value,
 ) -> Result<Act<'p>, NoMemory>
-    ensures leads { Computes state.old (array_after progress v) result state.new }
-    ensures falls { RankAtMost state.old (rank_array progress + 2) result state.new }
+    ensures refines { Computes state.old (array_after progress v) result state.new }
+    ensures bounded { RankAtMost state.old (rank_array progress + 2) result state.new }
 {
     match progress {
         ArrayProgress::Join { object } => step_join_property(state, object, &v),

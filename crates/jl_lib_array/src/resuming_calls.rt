@@ -19,8 +19,8 @@ pub fn resume_call<'p>(
     progress: ArrayCallProgress,
     v: Value,
 ) -> Result<Act<'p>, NoMemory>
-    ensures leads { Computes state.old (array_call_after progress v) result state.new }
-    ensures falls { RankAtMost state.old (rank_array_call progress + 2) result state.new }
+    ensures refines { Computes state.old (array_call_after progress v) result state.new }
+    ensures bounded { RankAtMost state.old (rank_array_call progress + 2) result state.new }
 {
     match progress {
         ArrayCallProgress::Length {

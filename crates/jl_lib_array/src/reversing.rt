@@ -42,8 +42,8 @@ pub(crate) fn reverse_turn<'p>(
     state: &mut State<'p>,
     reversing: Reversing,
 ) -> Result<Act<'p>, NoMemory>
-    ensures leads { Computes state.old (reverse_others reversing reversing.left reversing.lower) result state.new }
-    ensures falls { RankAtMost state.old 8 result state.new }
+    ensures refines { Computes state.old (reverse_others reversing reversing.left reversing.lower) result state.new }
+    ensures bounded { RankAtMost state.old 8 result state.new }
 {
     let object = reversing.object;
     if reversing.left == 0 {
@@ -65,8 +65,8 @@ pub(crate) fn step_reverse_lower<'p>(
     reversing: Reversing,
     low: Value,
 ) -> Result<Act<'p>, NoMemory>
-    ensures leads { Computes state.old (array_after (ArrayProgress.ReverseLower reversing) low) result state.new }
-    ensures falls { RankAtMost state.old 112 result state.new }
+    ensures refines { Computes state.old (array_after (ArrayProgress.ReverseLower reversing) low) result state.new }
+    ensures bounded { RankAtMost state.old 112 result state.new }
 {
     let object = reversing.object;
     let upper = upper_of(&reversing);
@@ -88,9 +88,9 @@ pub(crate) fn step_reverse_upper<'p>(
     low: Value,
     high: Value,
 ) -> Result<Act<'p>, NoMemory>
-    ensures leads { Computes state.old (array_after (ArrayProgress.ReverseUpper reversing low) high) result
+    ensures refines { Computes state.old (array_after (ArrayProgress.ReverseUpper reversing low) high) result
         state.new }
-    ensures falls { RankAtMost state.old 102 result state.new }
+    ensures bounded { RankAtMost state.old 102 result state.new }
 {
     let alloc = state.alloc();
     let object = reversing.object;
@@ -114,10 +114,10 @@ fn move_to_upper<'p>(
     reversing: Reversing,
     low: Value,
 ) -> Result<Act<'p>, NoMemory>
-    ensures leads { Computes state.old (delete_index reversing.object reversing.lower then λ _. put_index
+    ensures refines { Computes state.old (delete_index reversing.object reversing.lower then λ _. put_index
         reversing.object (upper_of reversing) low then λ _. reverse_others reversing reversing.left (reversing.lower
         + 1)) result state.new }
-    ensures falls { RankAtMost state.old 52 result state.new }
+    ensures bounded { RankAtMost state.old 52 result state.new }
 {
     let answer = delete_index(state, reversing.object, reversing.lower)?;
     match answer {
@@ -132,9 +132,9 @@ fn put_above<'p>(
     reversing: Reversing,
     low: Value,
 ) -> Result<Act<'p>, NoMemory>
-    ensures leads { Computes state.old (put_index reversing.object (upper_of reversing) low then λ _. reverse_others
+    ensures refines { Computes state.old (put_index reversing.object (upper_of reversing) low then λ _. reverse_others
         reversing reversing.left (reversing.lower + 1)) result state.new }
-    ensures falls { RankAtMost state.old 52 result state.new }
+    ensures bounded { RankAtMost state.old 52 result state.new }
 {
     let object = reversing.object;
     let upper = upper_of(&reversing);
@@ -148,9 +148,9 @@ pub(crate) fn step_reverse_exchange<'p>(
     reversing: Reversing,
     low: Option<Value>,
 ) -> Result<Act<'p>, NoMemory>
-    ensures leads { Computes state.old (array_after (ArrayProgress.ReverseExchange reversing low) value.Undefined)
+    ensures refines { Computes state.old (array_after (ArrayProgress.ReverseExchange reversing low) value.Undefined)
         result state.new }
-    ensures falls { RankAtMost state.old 52 result state.new }
+    ensures bounded { RankAtMost state.old 52 result state.new }
 {
     let object = reversing.object;
     let upper = upper_of(&reversing);

@@ -23,8 +23,8 @@ pub(crate) fn search<'p>(
     length: usize,
     args: &List<Value>,
 ) -> Result<Act<'p>, NoMemory>
-    ensures leads { Computes state.old (search direction object length args.now) result state.new }
-    ensures falls { RankAtMost state.old 28 result state.new }
+    ensures refines { Computes state.old (search direction object length args.now) result state.new }
+    ensures bounded { RankAtMost state.old 28 result state.new }
 {
     let alloc = state.alloc();
     if length == 0 {
@@ -55,9 +55,9 @@ pub(crate) fn step_search_from<'p>(
     direction: Direction,
     p: &Value,
 ) -> Result<Act<'p>, NoMemory>
-    ensures leads { Computes state.old (array_call_after (ArrayCallProgress.SearchFrom object length sought
+    ensures refines { Computes state.old (array_call_after (ArrayCallProgress.SearchFrom object length sought
         direction) p.now) result state.new }
-    ensures falls { RankAtMost state.old 9 result state.new }
+    ensures bounded { RankAtMost state.old 9 result state.new }
 {
     let Some(n) = number_of_primitive(p) else {
         return Ok(Act::Fault(Fault::NumberOutside));
@@ -75,8 +75,8 @@ fn go_on_searching<'p>(
     direction: Direction,
     at: usize,
 ) -> Result<Act<'p>, NoMemory>
-    ensures leads { Computes state.old (search_from direction object length sought at) result state.new }
-    ensures falls { RankAtMost state.old 9 result state.new }
+    ensures refines { Computes state.old (search_from direction object length sought at) result state.new }
+    ensures bounded { RankAtMost state.old 9 result state.new }
 {
     let progress = ArrayCallProgress::SearchTurn {
         object,
@@ -97,8 +97,8 @@ pub(crate) fn search_turn<'p>(
     direction: Direction,
     at: usize,
 ) -> Result<Act<'p>, NoMemory>
-    ensures leads { Computes state.old (search_from direction object length sought at) result state.new }
-    ensures falls { RankAtMost state.old 3 result state.new }
+    ensures refines { Computes state.old (search_from direction object length sought at) result state.new }
+    ensures bounded { RankAtMost state.old 3 result state.new }
 {
     let Some(index) = index_at(direction, at, length) else {
         return Ok(Act::Give(index_or_none(None)?));
@@ -118,9 +118,9 @@ fn search_element<'p>(
     direction: Direction,
     index: usize,
 ) -> Result<Act<'p>, NoMemory>
-    ensures leads { Computes state.old (element object index then search_with direction object length sought index)
+    ensures refines { Computes state.old (element object index then search_with direction object length sought index)
         result state.new }
-    ensures falls { RankAtMost state.old 16 result state.new }
+    ensures bounded { RankAtMost state.old 16 result state.new }
 {
     let alloc = state.alloc();
     let there = has_index(alloc, &state.store, object, index)?;
@@ -149,9 +149,9 @@ pub(crate) fn step_search_element<'p>(
     index: usize,
     v: &Value,
 ) -> Result<Act<'p>, NoMemory>
-    ensures leads { Computes state.old (array_call_after (ArrayCallProgress.SearchElement object length sought
+    ensures refines { Computes state.old (array_call_after (ArrayCallProgress.SearchElement object length sought
         direction index) v.now) result state.new }
-    ensures falls { RankAtMost state.old 9 result state.new }
+    ensures bounded { RankAtMost state.old 9 result state.new }
 {
     if strict_equal(&sought, v) {
         return Ok(Act::Give(index_or_none(Some(index))?));

@@ -14,8 +14,8 @@ use jl_value::{Completion, ObjId, Value};
 
 /// The length of what has no elements is put, and undefined given (15.4.4.6, step 4, and 15.4.4.9, step 4).
 fn give_nothing<'p>(state: &mut State<'p>, object: ObjId) -> Result<Act<'p>, NoMemory>
-    ensures leads { Computes state.old (give_nothing object) result state.new }
-    ensures falls { RankAtMost state.old 42 result state.new }
+    ensures refines { Computes state.old (give_nothing object) result state.new }
+    ensures bounded { RankAtMost state.old 42 result state.new }
 {
     put_length(state, object, 0, Value::Undefined)
 }
@@ -27,8 +27,8 @@ pub(crate) fn without_last<'p>(
     last: usize,
     gives: Value,
 ) -> Result<Act<'p>, NoMemory>
-    ensures leads { Computes state.old (without_last object last gives) result state.new }
-    ensures falls { RankAtMost state.old 42 result state.new }
+    ensures refines { Computes state.old (without_last object last gives) result state.new }
+    ensures bounded { RankAtMost state.old 42 result state.new }
 {
     let answer = delete_index(state, object, last)?;
     match answer {
@@ -43,8 +43,8 @@ pub(crate) fn pop_last<'p>(
     object: ObjId,
     length: usize,
 ) -> Result<Act<'p>, NoMemory>
-    ensures leads { Computes state.old (pop_last object length) result state.new }
-    ensures falls { RankAtMost state.old 54 result state.new }
+    ensures refines { Computes state.old (pop_last object length) result state.new }
+    ensures bounded { RankAtMost state.old 54 result state.new }
 {
     if length == 0 {
         return give_nothing(state, object);
@@ -60,8 +60,8 @@ pub(crate) fn shift_first<'p>(
     object: ObjId,
     length: usize,
 ) -> Result<Act<'p>, NoMemory>
-    ensures leads { Computes state.old (shift_first object length) result state.new }
-    ensures falls { RankAtMost state.old 84 result state.new }
+    ensures refines { Computes state.old (shift_first object length) result state.new }
+    ensures bounded { RankAtMost state.old 84 result state.new }
 {
     if length == 0 {
         return give_nothing(state, object);
@@ -78,8 +78,8 @@ pub(crate) fn step_shift_first<'p>(
     last: usize,
     first: Value,
 ) -> Result<Act<'p>, NoMemory>
-    ensures leads { Computes state.old (array_after (ArrayProgress.ShiftFirst object last) first) result state.new }
-    ensures falls { RankAtMost state.old 82 result state.new }
+    ensures refines { Computes state.old (array_after (ArrayProgress.ShiftFirst object last) first) result state.new }
+    ensures bounded { RankAtMost state.old 82 result state.new }
 {
     let moving = Moving {
         object,

@@ -21,8 +21,8 @@ use jl_value::{Completion, Fault, ObjId, Value, is_undefined};
 
 /// `slice` begins: its array is made before the length is asked for.
 pub(crate) fn array_slice<'p>(state: &mut State<'p>, call: Invocation) -> Result<Act<'p>, NoMemory>
-    ensures leads { Computes state.old (array_slice (call_of call)) result state.new }
-    ensures falls { RankAtMost state.old 74 result state.new }
+    ensures refines { Computes state.old (array_slice (call_of call)) result state.new }
+    ensures bounded { RankAtMost state.old 74 result state.new }
 {
     let Invocation { this, args, .. } = call;
     let answer = state.store.to_object(&this)?;
@@ -44,8 +44,8 @@ pub(crate) fn slice<'p>(
     args: &List<Value>,
     length: usize,
 ) -> Result<Act<'p>, NoMemory>
-    ensures leads { Computes state.old (with_length (LengthFor.Slice array) object args.now length) result state.new }
-    ensures falls { RankAtMost state.old 46 result state.new }
+    ensures refines { Computes state.old (with_length (LengthFor.Slice array) object args.now length) result state.new }
+    ensures bounded { RankAtMost state.old 46 result state.new }
 {
     let alloc = state.alloc();
     let start = argument(alloc, args.items(), 0)?;
@@ -70,9 +70,9 @@ pub(crate) fn step_slice_start<'p>(
     end: Value,
     p: &Value,
 ) -> Result<Act<'p>, NoMemory>
-    ensures leads { Computes state.old (array_call_after (ArrayCallProgress.SliceStart object array length end)
+    ensures refines { Computes state.old (array_call_after (ArrayCallProgress.SliceStart object array length end)
         p.now) result state.new }
-    ensures falls { RankAtMost state.old 28 result state.new }
+    ensures bounded { RankAtMost state.old 28 result state.new }
 {
     let Some(n) = number_of_primitive(p) else {
         return Ok(Act::Fault(Fault::NumberOutside));
@@ -90,8 +90,8 @@ fn slice_to<'p>(
     start: usize,
     end: Value,
 ) -> Result<Act<'p>, NoMemory>
-    ensures leads { Computes state.old (slice_to object array length start end) result state.new }
-    ensures falls { RankAtMost state.old 28 result state.new }
+    ensures refines { Computes state.old (slice_to object array length start end) result state.new }
+    ensures bounded { RankAtMost state.old 28 result state.new }
 {
     if is_undefined(&end) {
         return begin_copy(state, object, start, array, length);
@@ -116,9 +116,9 @@ pub(crate) fn step_slice_end<'p>(
     start: usize,
     p: &Value,
 ) -> Result<Act<'p>, NoMemory>
-    ensures leads { Computes state.old (array_call_after (ArrayCallProgress.SliceEnd object array length start)
+    ensures refines { Computes state.old (array_call_after (ArrayCallProgress.SliceEnd object array length start)
         p.now) result state.new }
-    ensures falls { RankAtMost state.old 9 result state.new }
+    ensures bounded { RankAtMost state.old 9 result state.new }
 {
     let Some(n) = number_of_primitive(p) else {
         return Ok(Act::Fault(Fault::NumberOutside));
@@ -134,8 +134,8 @@ fn begin_copy<'p>(
     array: ObjId,
     end: usize,
 ) -> Result<Act<'p>, NoMemory>
-    ensures leads { Computes state.old (copy_from object start array (end - start) 0) result state.new }
-    ensures falls { RankAtMost state.old 9 result state.new }
+    ensures refines { Computes state.old (copy_from object start array (end - start) 0) result state.new }
+    ensures bounded { RankAtMost state.old 9 result state.new }
 {
     let progress = ArrayCallProgress::CopyTurn {
         object,
@@ -156,8 +156,8 @@ pub(crate) fn copy_turn<'p>(
     count: usize,
     at: usize,
 ) -> Result<Act<'p>, NoMemory>
-    ensures leads { Computes state.old (copy_from object start array count at) result state.new }
-    ensures falls { RankAtMost state.old 3 result state.new }
+    ensures refines { Computes state.old (copy_from object start array count at) result state.new }
+    ensures bounded { RankAtMost state.old 3 result state.new }
 {
     if count <= at {
         return Ok(Act::Give(Value::Obj(array)));
@@ -177,9 +177,9 @@ fn copy_element<'p>(
     count: usize,
     index: usize,
 ) -> Result<Act<'p>, NoMemory>
-    ensures leads { Computes state.old (element object (start + index) then λ v. (add_if array index v then λ _.
+    ensures refines { Computes state.old (element object (start + index) then λ v. (add_if array index v then λ _.
         copy_from object start array count (index + 1))) result state.new }
-    ensures falls { RankAtMost state.old 16 result state.new }
+    ensures bounded { RankAtMost state.old 16 result state.new }
 {
     let alloc = state.alloc();
     let from = sum(start, index)?;
@@ -208,9 +208,9 @@ pub(crate) fn step_copy_element<'p>(
     index: usize,
     v: Value,
 ) -> Result<Act<'p>, NoMemory>
-    ensures leads { Computes state.old (array_call_after (ArrayCallProgress.CopyElement object start array count
+    ensures refines { Computes state.old (array_call_after (ArrayCallProgress.CopyElement object start array count
         index) v) result state.new }
-    ensures falls { RankAtMost state.old 9 result state.new }
+    ensures bounded { RankAtMost state.old 9 result state.new }
 {
     let alloc = state.alloc();
     let answer = add_index(alloc, &mut state.store, array, index, v)?;
@@ -230,8 +230,8 @@ fn next_copy<'p>(
     count: usize,
     index: usize,
 ) -> Result<Act<'p>, NoMemory>
-    ensures leads { Computes state.old (copy_from object start array count (index + 1)) result state.new }
-    ensures falls { RankAtMost state.old 9 result state.new }
+    ensures refines { Computes state.old (copy_from object start array count (index + 1)) result state.new }
+    ensures bounded { RankAtMost state.old 9 result state.new }
 {
     let progress = ArrayCallProgress::CopyTurn {
         object,

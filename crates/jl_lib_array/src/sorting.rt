@@ -21,8 +21,8 @@ use jl_value::{ArrayBuiltin, Builtin, ObjId, Value, is_undefined, share};
 
 /// `sort` begins. With a function to compare by it is left out.
 pub(crate) fn array_sort<'p>(state: &mut State<'p>, call: Invocation) -> Result<Act<'p>, NoMemory>
-    ensures leads { Computes state.old (array_sort (call_of call)) result state.new }
-    ensures falls { RankAtMost state.old 164 result state.new }
+    ensures refines { Computes state.old (array_sort (call_of call)) result state.new }
+    ensures bounded { RankAtMost state.old 164 result state.new }
 {
     let alloc = state.alloc();
     let comparator = argument(alloc, call.args.items(), 0)?;
@@ -38,8 +38,8 @@ pub(crate) fn sort_turn<'p>(
     reading: Reading,
     read: List<(Option<Text>, Value)>,
 ) -> Result<Act<'p>, NoMemory>
-    ensures leads { Computes state.old (sort_others reading read) result state.new }
-    ensures falls { RankAtMost state.old 62 result state.new }
+    ensures refines { Computes state.old (sort_others reading read) result state.new }
+    ensures bounded { RankAtMost state.old 62 result state.new }
 {
     if reading.left == 0 {
         return put_sorted(state, reading.object, reading.length, read);
@@ -60,9 +60,9 @@ fn read_element<'p>(
     reading: Reading,
     read: List<(Option<Text>, Value)>,
 ) -> Result<Act<'p>, NoMemory>
-    ensures leads { Computes state.old (read_turn reading.object index read then sort_others reading) result
+    ensures refines { Computes state.old (read_turn reading.object index read then sort_others reading) result
         state.new }
-    ensures falls { RankAtMost state.old 104 result state.new }
+    ensures bounded { RankAtMost state.old 104 result state.new }
 {
     let alloc = state.alloc();
     let object = reading.object;
@@ -80,8 +80,8 @@ pub(crate) fn step_sort_element<'p>(
     read: List<(Option<Text>, Value)>,
     v: Value,
 ) -> Result<Act<'p>, NoMemory>
-    ensures leads { Computes state.old (array_after (ArrayProgress.SortElement reading read) v) result state.new }
-    ensures falls { RankAtMost state.old 102 result state.new }
+    ensures refines { Computes state.old (array_after (ArrayProgress.SortElement reading read) v) result state.new }
+    ensures bounded { RankAtMost state.old 102 result state.new }
 {
     let alloc = state.alloc();
     if is_undefined(&v) {
@@ -106,9 +106,9 @@ pub(crate) fn step_sort_primitive<'p>(
     element: Value,
     p: &Value,
 ) -> Result<Act<'p>, NoMemory>
-    ensures leads { Computes state.old (array_after (ArrayProgress.SortPrimitive reading read element) p.now) result
+    ensures refines { Computes state.old (array_after (ArrayProgress.SortPrimitive reading read element) p.now) result
         state.new }
-    ensures falls { RankAtMost state.old 82 result state.new }
+    ensures bounded { RankAtMost state.old 82 result state.new }
 {
     let alloc = state.alloc();
     let text = text_of(alloc, p)?;
@@ -124,9 +124,9 @@ fn put_sorted<'p>(
     length: usize,
     read: List<(Option<Text>, Value)>,
 ) -> Result<Act<'p>, NoMemory>
-    ensures leads { Computes state.old (put_others object 0 (map (λ (x : KeyedValue). x.1) (sort_by_keys read))
+    ensures refines { Computes state.old (put_others object 0 (map (λ (x : KeyedValue). x.1) (sort_by_keys read))
         (AfterPutting.Sort length)) result state.new }
-    ensures falls { RankAtMost state.old 62 result state.new }
+    ensures bounded { RankAtMost state.old 62 result state.new }
 {
     let alloc = state.alloc();
     let sorted = in_order(alloc, read)?;

@@ -10,7 +10,9 @@ ghost use Rattle.jl_state.specs.Words.{call_of};
 use crate::frames::begin_turn;
 use crate::lengths::get_length;
 use crate::places::sum;
-use jl_builtin::{argument, clamp, number_of_primitive, relative_index, rest_of, wait_for_number};
+use jl_builtin::{
+    argument, clamp, continuation_of, number_of_primitive, relative_index, wait_for_number,
+};
 use jl_progress::{
     AfterCopying, AfterMoving, AfterPutting, ArrayProgress, Copying, LengthFunction, Moving,
     Progress, Splicing,
@@ -30,8 +32,8 @@ pub(crate) fn length_spliced(splicing: &Splicing) -> Result<usize, NoMemory>
 
 /// `splice` begins.
 pub(crate) fn array_splice<'p>(state: &mut State<'p>, call: Invocation) -> Result<Act<'p>, NoMemory>
-    ensures leads { Computes state.old (array_splice (call_of call)) result state.new }
-    ensures falls { RankAtMost state.old 164 result state.new }
+    ensures refines { Computes state.old (array_splice (call_of call)) result state.new }
+    ensures bounded { RankAtMost state.old 164 result state.new }
 {
     let Invocation { this, args, .. } = call;
     let answer = state.store.to_object(&this)?;
@@ -47,8 +49,8 @@ fn splice_into_new<'p>(
     object: ObjId,
     args: List<Value>,
 ) -> Result<Act<'p>, NoMemory>
-    ensures leads { Computes state.old (splice_on object args) result state.new }
-    ensures falls { RankAtMost state.old 164 result state.new }
+    ensures refines { Computes state.old (splice_on object args) result state.new }
+    ensures bounded { RankAtMost state.old 164 result state.new }
 {
     let array = state.store.new_array()?;
     get_length(state, LengthFunction::Splice { array }, object, args)
@@ -62,9 +64,9 @@ pub(crate) fn splice<'p>(
     args: List<Value>,
     length: usize,
 ) -> Result<Act<'p>, NoMemory>
-    ensures leads { Computes state.old (with_length (LengthFunction.Splice array) object args length) result
+    ensures refines { Computes state.old (with_length (LengthFunction.Splice array) object args length) result
         state.new }
-    ensures falls { RankAtMost state.old 136 result state.new }
+    ensures bounded { RankAtMost state.old 136 result state.new }
 {
     let alloc = state.alloc();
     let start = argument(alloc, args.items(), 0)?;
@@ -86,9 +88,9 @@ pub(crate) fn step_splice_start<'p>(
     args: List<Value>,
     p: &Value,
 ) -> Result<Act<'p>, NoMemory>
-    ensures leads { Computes state.old (array_after (ArrayProgress.SpliceStart object array length args) p.now)
+    ensures refines { Computes state.old (array_after (ArrayProgress.SpliceStart object array length args) p.now)
         result state.new }
-    ensures falls { RankAtMost state.old 122 result state.new }
+    ensures bounded { RankAtMost state.old 122 result state.new }
 {
     let alloc = state.alloc();
     let Some(n) = number_of_primitive(p) else {
@@ -116,16 +118,16 @@ pub(crate) fn step_splice_count<'p>(
     args: &[Value],
     p: &Value,
 ) -> Result<Act<'p>, NoMemory>
-    ensures leads { Computes state.old (array_after (ArrayProgress.SpliceCount object array length start args.now)
+    ensures refines { Computes state.old (array_after (ArrayProgress.SpliceCount object array length start args.now)
         p.now) result state.new }
-    ensures falls { RankAtMost state.old 92 result state.new }
+    ensures bounded { RankAtMost state.old 92 result state.new }
 {
     let alloc = state.alloc();
     let Some(n) = number_of_primitive(p) else {
         return Ok(Act::Fault(Fault::NumberOutside));
     };
     let removed = clamp(n, length.saturating_sub(start));
-    let items = rest_of(alloc, args, 2)?;
+    let items = continuation_of(alloc, args, 2)?;
     let splicing = Splicing {
         object,
         array,
@@ -139,9 +141,9 @@ pub(crate) fn step_splice_count<'p>(
 
 /// The elements that go are copied to the new array, one a turn.
 fn copy_removed<'p>(state: &mut State<'p>, splicing: Splicing) -> Result<Act<'p>, NoMemory>
-    ensures leads { Computes state.old (splice_at splicing.object splicing.array splicing.length splicing.start
+    ensures refines { Computes state.old (splice_at splicing.object splicing.array splicing.length splicing.start
         splicing.removed splicing.items) result state.new }
-    ensures falls { RankAtMost state.old 92 result state.new }
+    ensures bounded { RankAtMost state.old 92 result state.new }
 {
     let copying = Copying {
         object: splicing.object,
@@ -160,8 +162,8 @@ pub(crate) fn splice_others<'p>(
     state: &mut State<'p>,
     splicing: Splicing,
 ) -> Result<Act<'p>, NoMemory>
-    ensures leads { Computes state.old (splice_others splicing) result state.new }
-    ensures falls { RankAtMost state.old 74 result state.new }
+    ensures refines { Computes state.old (splice_others splicing) result state.new }
+    ensures bounded { RankAtMost state.old 74 result state.new }
 {
     let added = splicing.items.len();
     if added < splicing.removed {
@@ -185,8 +187,8 @@ fn after_removed(splicing: &Splicing) -> usize
 
 /// Fewer elements come than go: those after them are moved down, from the first one up.
 fn move_closer<'p>(state: &mut State<'p>, splicing: Splicing) -> Result<Act<'p>, NoMemory>
-    ensures leads { Computes state.old (close_gap splicing then λ _. put_items splicing) result state.new }
-    ensures falls { RankAtMost state.old 74 result state.new }
+    ensures refines { Computes state.old (close_gap splicing then λ _. put_items splicing) result state.new }
+    ensures bounded { RankAtMost state.old 74 result state.new }
 {
     let moving = Moving {
         object: splicing.object,
@@ -201,8 +203,8 @@ fn move_closer<'p>(state: &mut State<'p>, splicing: Splicing) -> Result<Act<'p>,
 
 /// More elements come than go: those after them are moved up, from the last one down.
 fn move_apart<'p>(state: &mut State<'p>, splicing: Splicing) -> Result<Act<'p>, NoMemory>
-    ensures leads { Computes state.old (open_gap splicing then λ _. put_items splicing) result state.new }
-    ensures falls { RankAtMost state.old 74 result state.new }
+    ensures refines { Computes state.old (open_gap splicing then λ _. put_items splicing) result state.new }
+    ensures bounded { RankAtMost state.old 74 result state.new }
 {
     let moving = Moving {
         object: splicing.object,
@@ -216,8 +218,8 @@ fn move_apart<'p>(state: &mut State<'p>, splicing: Splicing) -> Result<Act<'p>, 
 
 /// The elements that come are put, one a turn, and then the length.
 pub(crate) fn put_items<'p>(state: &mut State<'p>, splicing: Splicing) -> Result<Act<'p>, NoMemory>
-    ensures leads { Computes state.old (put_items splicing) result state.new }
-    ensures falls { RankAtMost state.old 54 result state.new }
+    ensures refines { Computes state.old (put_items splicing) result state.new }
+    ensures bounded { RankAtMost state.old 54 result state.new }
 {
     let length = length_spliced(&splicing)?;
     let then = AfterPutting::Splice {

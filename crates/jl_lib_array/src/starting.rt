@@ -24,8 +24,8 @@ pub fn start<'p>(
     builtin: ArrayBuiltin,
     call: Invocation,
 ) -> Result<Act<'p>, NoMemory>
-    ensures leads { Computes state.old (array_algorithm builtin (call_of call)) result state.new }
-    ensures falls { RankAtMost state.old 400 result state.new }
+    ensures refines { Computes state.old (array_algorithm builtin (call_of call)) result state.new }
+    ensures bounded { RankAtMost state.old 400 result state.new }
 {
     match builtin {
         ArrayBuiltin::Constructor => array_constructor(state, call.args.items()),
@@ -60,8 +60,8 @@ fn start_search<'p>(
     direction: Direction,
     call: Invocation,
 ) -> Result<Act<'p>, NoMemory>
-    ensures leads { Computes state.old (length_call (LengthFor.Search direction) (call_of call)) result state.new }
-    ensures falls { RankAtMost state.old 74 result state.new }
+    ensures refines { Computes state.old (length_call (LengthFor.Search direction) (call_of call)) result state.new }
+    ensures bounded { RankAtMost state.old 74 result state.new }
 {
     begin_length(state, LengthFor::Search { direction }, call)
 }
@@ -72,8 +72,8 @@ fn start_walk<'p>(
     purpose: WalkFor,
     call: Invocation,
 ) -> Result<Act<'p>, NoMemory>
-    ensures leads { Computes state.old (length_call (LengthFor.Walk purpose) (call_of call)) result state.new }
-    ensures falls { RankAtMost state.old 74 result state.new }
+    ensures refines { Computes state.old (length_call (LengthFor.Walk purpose) (call_of call)) result state.new }
+    ensures bounded { RankAtMost state.old 74 result state.new }
 {
     begin_length(state, LengthFor::Walk { purpose }, call)
 }
@@ -84,9 +84,9 @@ fn start_reduction<'p>(
     direction: Direction,
     call: Invocation,
 ) -> Result<Act<'p>, NoMemory>
-    ensures leads { Computes state.old (length_call (LengthFor.Walk (WalkFor.Reduce direction)) (call_of call)) result
+    ensures refines { Computes state.old (length_call (LengthFor.Walk (WalkFor.Reduce direction)) (call_of call)) result
         state.new }
-    ensures falls { RankAtMost state.old 74 result state.new }
+    ensures bounded { RankAtMost state.old 74 result state.new }
 {
     start_walk(state, WalkFor::Reduce { direction }, call)
 }

@@ -19,8 +19,8 @@ pub(crate) fn array_to_string<'p>(
     state: &mut State<'p>,
     call: Invocation,
 ) -> Result<Act<'p>, NoMemory>
-    ensures leads { Computes state.old (array_to_string (call_of call)) result state.new }
-    ensures falls { RankAtMost state.old 10 result state.new }
+    ensures refines { Computes state.old (array_to_string (call_of call)) result state.new }
+    ensures bounded { RankAtMost state.old 10 result state.new }
 {
     let answer = state.store.to_object(&call.this)?;
     match answer {
@@ -31,8 +31,8 @@ pub(crate) fn array_to_string<'p>(
 
 /// `toString` of an object.
 fn string_on<'p>(state: &mut State<'p>, object: ObjId) -> Result<Act<'p>, NoMemory>
-    ensures leads { Computes state.old (string_on object) result state.new }
-    ensures falls { RankAtMost state.old 10 result state.new }
+    ensures refines { Computes state.old (string_on object) result state.new }
+    ensures bounded { RankAtMost state.old 10 result state.new }
 {
     let alloc = state.alloc();
     let name = word(alloc, "join")?;
@@ -46,8 +46,8 @@ pub(crate) fn step_join_property<'p>(
     object: ObjId,
     join: &Value,
 ) -> Result<Act<'p>, NoMemory>
-    ensures leads { Computes state.old (array_after (ArrayProgress.Join object) join.now) result state.new }
-    ensures falls { RankAtMost state.old 8 result state.new }
+    ensures refines { Computes state.old (array_after (ArrayProgress.Join object) join.now) result state.new }
+    ensures bounded { RankAtMost state.old 8 result state.new }
 {
     let alloc = state.alloc();
     let callable = state.store.is_callable(join);

@@ -27,8 +27,8 @@ pub(crate) fn go_on_walking<'p>(
     task: Task,
     at: usize,
 ) -> Result<Act<'p>, NoMemory>
-    ensures leads { Computes state.old (turns task (walk_of walk) at) result state.new }
-    ensures falls { RankAtMost state.old 9 result state.new }
+    ensures refines { Computes state.old (turns task (walk_of walk) at) result state.new }
+    ensures bounded { RankAtMost state.old 9 result state.new }
 {
     let progress = ArrayCallProgress::Turn { walk, task, at };
     go_on(state, Progress::ArrayCall(progress))
@@ -36,8 +36,8 @@ pub(crate) fn go_on_walking<'p>(
 
 /// What a task comes to, when no turn is left.
 pub(crate) fn end_task<'p>(state: &mut State<'p>, task: Task) -> Result<Act<'p>, NoMemory>
-    ensures leads { Computes state.old (task_end task) result state.new }
-    ensures falls { RankAtMost state.old 3 result state.new }
+    ensures refines { Computes state.old (task_end task) result state.new }
+    ensures bounded { RankAtMost state.old 3 result state.new }
 {
     match task {
         Task::Any { wanted } => Ok(Act::Give(Value::Bool(!wanted))),
@@ -59,9 +59,9 @@ pub(crate) fn step_element<'p>(
     index: usize,
     v: Value,
 ) -> Result<Act<'p>, NoMemory>
-    ensures leads { Computes state.old (array_call_after (ArrayCallProgress.Element walk task index) v) result
+    ensures refines { Computes state.old (array_call_after (ArrayCallProgress.Element walk task index) v) result
         state.new }
-    ensures falls { RankAtMost state.old 14 result state.new }
+    ensures bounded { RankAtMost state.old 14 result state.new }
 {
     match task {
         Task::Any { wanted } => ask(state, walk, Task::Any { wanted }, index, v),
@@ -80,9 +80,9 @@ fn ask<'p>(
     index: usize,
     v: Value,
 ) -> Result<Act<'p>, NoMemory>
-    ensures leads { Computes state.old (called_with (walk_of walk) index v then task_after task (walk_of walk) index
+    ensures refines { Computes state.old (called_with (walk_of walk) index v then task_after task (walk_of walk) index
         v) result state.new }
-    ensures falls { RankAtMost state.old 14 result state.new }
+    ensures bounded { RankAtMost state.old 14 result state.new }
 {
     let alloc = state.alloc();
     let element = share(alloc, &v)?;
@@ -129,9 +129,9 @@ fn combine<'p>(
     index: usize,
     v: Value,
 ) -> Result<Act<'p>, NoMemory>
-    ensures leads { Computes state.old (task_with (Task.Reduce so_far direction) (walk_of walk) index (Some v))
+    ensures refines { Computes state.old (task_with (Task.Reduce so_far direction) (walk_of walk) index (Some v))
         result state.new }
-    ensures falls { RankAtMost state.old 14 result state.new }
+    ensures bounded { RankAtMost state.old 14 result state.new }
 {
     match so_far {
         None => go_on_reducing(state, walk, v, direction, index),
@@ -147,9 +147,9 @@ fn go_on_reducing<'p>(
     direction: Direction,
     index: usize,
 ) -> Result<Act<'p>, NoMemory>
-    ensures leads { Computes state.old (turns (Task.Reduce (Some so_far) direction) (walk_of walk) (next_place
+    ensures refines { Computes state.old (turns (Task.Reduce (Some so_far) direction) (walk_of walk) (next_place
         direction index)) result state.new }
-    ensures falls { RankAtMost state.old 9 result state.new }
+    ensures bounded { RankAtMost state.old 9 result state.new }
 {
     let at = next_place(direction, index)?;
     let so_far = Some(so_far);
@@ -165,9 +165,9 @@ fn call_to_combine<'p>(
     index: usize,
     v: Value,
 ) -> Result<Act<'p>, NoMemory>
-    ensures leads { Computes state.old (task_with (Task.Reduce (Some so_far) direction) (walk_of walk) index (Some
+    ensures refines { Computes state.old (task_with (Task.Reduce (Some so_far) direction) (walk_of walk) index (Some
         v)) result state.new }
-    ensures falls { RankAtMost state.old 14 result state.new }
+    ensures bounded { RankAtMost state.old 14 result state.new }
 {
     let alloc = state.alloc();
     let mut before = List::new(alloc);
@@ -201,9 +201,9 @@ pub(crate) fn step_answer<'p>(
     element: Value,
     v: Value,
 ) -> Result<Act<'p>, NoMemory>
-    ensures leads { Computes state.old (array_call_after (ArrayCallProgress.Answer walk task index element) v)
+    ensures refines { Computes state.old (array_call_after (ArrayCallProgress.Answer walk task index element) v)
         result state.new }
-    ensures falls { RankAtMost state.old 9 result state.new }
+    ensures bounded { RankAtMost state.old 9 result state.new }
 {
     match task {
         Task::Any { wanted } => answer_any(state, walk, wanted, index, &v),
@@ -222,8 +222,8 @@ fn answer_any<'p>(
     index: usize,
     v: &Value,
 ) -> Result<Act<'p>, NoMemory>
-    ensures leads { Computes state.old (any_with wanted (walk_of walk) index (Some v.now)) result state.new }
-    ensures falls { RankAtMost state.old 9 result state.new }
+    ensures refines { Computes state.old (any_with wanted (walk_of walk) index (Some v.now)) result state.new }
+    ensures bounded { RankAtMost state.old 9 result state.new }
 {
     let truth = to_boolean(v);
     if truth == wanted {
@@ -243,9 +243,9 @@ fn answer_filter<'p>(
     element: Value,
     v: &Value,
 ) -> Result<Act<'p>, NoMemory>
-    ensures leads { Computes state.old (task_after (Task.Filter array to) (walk_of walk) index element v.now) result
+    ensures refines { Computes state.old (task_after (Task.Filter array to) (walk_of walk) index element v.now) result
         state.new }
-    ensures falls { RankAtMost state.old 9 result state.new }
+    ensures bounded { RankAtMost state.old 9 result state.new }
 {
     if to_boolean(v) {
         return add_element(state, walk, array, to, index, element);
@@ -262,9 +262,9 @@ fn add_answer<'p>(
     index: usize,
     v: Value,
 ) -> Result<Act<'p>, NoMemory>
-    ensures leads { Computes state.old (add_index array index v then λ _. turns (Task.Map array) (walk_of walk)
+    ensures refines { Computes state.old (add_index array index v then λ _. turns (Task.Map array) (walk_of walk)
         (index + 1)) result state.new }
-    ensures falls { RankAtMost state.old 9 result state.new }
+    ensures bounded { RankAtMost state.old 9 result state.new }
 {
     let alloc = state.alloc();
     let at = next_index(index)?;
@@ -285,9 +285,9 @@ fn add_element<'p>(
     index: usize,
     element: Value,
 ) -> Result<Act<'p>, NoMemory>
-    ensures leads { Computes state.old (add_index array to element then λ _. turns (Task.Filter array (to + 1))
+    ensures refines { Computes state.old (add_index array to element then λ _. turns (Task.Filter array (to + 1))
         (walk_of walk) (index + 1)) result state.new }
-    ensures falls { RankAtMost state.old 9 result state.new }
+    ensures bounded { RankAtMost state.old 9 result state.new }
 {
     let alloc = state.alloc();
     let at = next_index(index)?;

@@ -25,8 +25,8 @@ pub(crate) fn begin_length<'p>(
     purpose: LengthFor,
     call: Invocation,
 ) -> Result<Act<'p>, NoMemory>
-    ensures leads { Computes state.old (length_call purpose (call_of call)) result state.new }
-    ensures falls { RankAtMost state.old 74 result state.new }
+    ensures refines { Computes state.old (length_call purpose (call_of call)) result state.new }
+    ensures bounded { RankAtMost state.old 74 result state.new }
 {
     let Invocation { this, args, .. } = call;
     let answer = state.store.to_object(&this)?;
@@ -43,8 +43,8 @@ pub(crate) fn get_length<'p>(
     args: List<Value>,
     purpose: LengthFor,
 ) -> Result<Act<'p>, NoMemory>
-    ensures leads { Computes state.old (get_length object then with_length purpose object args) result state.new }
-    ensures falls { RankAtMost state.old 74 result state.new }
+    ensures refines { Computes state.old (get_length object then with_length purpose object args) result state.new }
+    ensures bounded { RankAtMost state.old 74 result state.new }
 {
     let alloc = state.alloc();
     let name = word(alloc, "length")?;
@@ -65,9 +65,9 @@ pub(crate) fn step_length<'p>(
     purpose: LengthFor,
     v: Value,
 ) -> Result<Act<'p>, NoMemory>
-    ensures leads { Computes state.old (array_call_after (ArrayCallProgress.Length object args purpose) v) result
+    ensures refines { Computes state.old (array_call_after (ArrayCallProgress.Length object args purpose) v) result
         state.new }
-    ensures falls { RankAtMost state.old 66 result state.new }
+    ensures bounded { RankAtMost state.old 66 result state.new }
 {
     let progress = ArrayCallProgress::LengthPrimitive {
         object,
@@ -87,9 +87,9 @@ pub(crate) fn step_length_primitive<'p>(
     purpose: LengthFor,
     p: &Value,
 ) -> Result<Act<'p>, NoMemory>
-    ensures leads { Computes state.old (array_call_after (ArrayCallProgress.LengthPrimitive object args purpose)
+    ensures refines { Computes state.old (array_call_after (ArrayCallProgress.LengthPrimitive object args purpose)
         p.now) result state.new }
-    ensures falls { RankAtMost state.old 46 result state.new }
+    ensures bounded { RankAtMost state.old 46 result state.new }
 {
     let Some(n) = number_of_primitive(p) else {
         return Ok(Act::Fault(Fault::NumberOutside));
@@ -105,8 +105,8 @@ fn with_length<'p>(
     args: &List<Value>,
     length: usize,
 ) -> Result<Act<'p>, NoMemory>
-    ensures leads { Computes state.old (with_length purpose object args.now length) result state.new }
-    ensures falls { RankAtMost state.old 46 result state.new }
+    ensures refines { Computes state.old (with_length purpose object args.now length) result state.new }
+    ensures bounded { RankAtMost state.old 46 result state.new }
 {
     match purpose {
         LengthFor::Slice { array } => slice(state, object, array, args, length),

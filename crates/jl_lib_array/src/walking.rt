@@ -7,7 +7,7 @@ ghost use Rattle.jl_meaning.specs.builtins.Arguments.{need_function};
 ghost use Rattle.jl_progress.specs.ArrayCalls.{argument_of, begin_walk, task_with, turns, walk_of, with_length};
 ghost use Rattle.jl_state.specs.Clauses.{Computes, RankAtMost};
 ghost use Rattle.jl_store.specs.Answers.{ends_with};
-ghost use Rattle.jl_store.specs.Comes.{Comes};
+ghost use Rattle.jl_store.specs.BigStep.{BigStep};
 
 use crate::arguments::second;
 use crate::arrays::array_of_length;
@@ -30,9 +30,9 @@ pub(crate) fn begin_walk<'p>(
     length: usize,
     args: &List<Value>,
 ) -> Result<Act<'p>, NoMemory>
-    ensures leads { Computes state.old (with_length (LengthFor.Walk purpose) object args.now length) result
+    ensures refines { Computes state.old (with_length (LengthFor.Walk purpose) object args.now length) result
         state.new }
-    ensures falls { RankAtMost state.old 9 result state.new }
+    ensures bounded { RankAtMost state.old 9 result state.new }
 {
     let alloc = state.alloc();
     let answer = function_in(alloc, &mut state.store, args)?;
@@ -57,7 +57,7 @@ fn function_in(
     store: &mut Store,
     args: &List<Value>,
 ) -> Result<Answer<ObjId>, NoMemory>
-    ensures { IfOk result (λ answer. Comes (need_function (argument_of args.now 0)) store.old store.new
+    ensures { IfOk result (λ answer. BigStep (need_function (argument_of args.now 0)) store.old store.new
         (ends_with answer)) }
 {
     let v = argument(alloc, args.items(), 0)?;
@@ -72,8 +72,8 @@ fn begin_task<'p>(
     walk: Walk,
     args: &List<Value>,
 ) -> Result<Act<'p>, NoMemory>
-    ensures leads { Computes state.old (begin_walk purpose (walk_of walk) args.now) result state.new }
-    ensures falls { RankAtMost state.old 9 result state.new }
+    ensures refines { Computes state.old (begin_walk purpose (walk_of walk) args.now) result state.new }
+    ensures bounded { RankAtMost state.old 9 result state.new }
 {
     let alloc = state.alloc();
     match purpose {
@@ -91,8 +91,8 @@ fn begin_task<'p>(
 
 /// `map` makes its array (15.4.4.19, step 6).
 fn begin_map<'p>(state: &mut State<'p>, walk: Walk) -> Result<Act<'p>, NoMemory>
-    ensures leads { Computes state.old (begin_walk WalkFor.Map (walk_of walk) []) result state.new }
-    ensures falls { RankAtMost state.old 9 result state.new }
+    ensures refines { Computes state.old (begin_walk WalkFor.Map (walk_of walk) []) result state.new }
+    ensures bounded { RankAtMost state.old 9 result state.new }
 {
     let alloc = state.alloc();
     let length = number(walk.length)?;
@@ -119,8 +119,8 @@ fn number(length: usize) -> Result<Num, NoMemory>
 
 /// `filter` makes its array (15.4.4.20, step 6).
 fn begin_filter<'p>(state: &mut State<'p>, walk: Walk) -> Result<Act<'p>, NoMemory>
-    ensures leads { Computes state.old (begin_walk WalkFor.Filter (walk_of walk) []) result state.new }
-    ensures falls { RankAtMost state.old 9 result state.new }
+    ensures refines { Computes state.old (begin_walk WalkFor.Filter (walk_of walk) []) result state.new }
+    ensures bounded { RankAtMost state.old 9 result state.new }
 {
     let array = state.store.new_array()?;
     go_on_walking(state, walk, Task::Filter { array, to: 0 }, 0)
@@ -133,8 +133,8 @@ pub(crate) fn turn<'p>(
     task: Task,
     at: usize,
 ) -> Result<Act<'p>, NoMemory>
-    ensures leads { Computes state.old (turns task (walk_of walk) at) result state.new }
-    ensures falls { RankAtMost state.old 3 result state.new }
+    ensures refines { Computes state.old (turns task (walk_of walk) at) result state.new }
+    ensures bounded { RankAtMost state.old 3 result state.new }
 {
     let Some(index) = index_at(direction_of(&task), at, walk.length) else {
         return end_task(state, task);
@@ -152,9 +152,9 @@ fn visit<'p>(
     task: Task,
     index: usize,
 ) -> Result<Act<'p>, NoMemory>
-    ensures leads { Computes state.old (element walk.object index then task_with task (walk_of walk) index) result
+    ensures refines { Computes state.old (element walk.object index then task_with task (walk_of walk) index) result
         state.new }
-    ensures falls { RankAtMost state.old 24 result state.new }
+    ensures bounded { RankAtMost state.old 24 result state.new }
 {
     let alloc = state.alloc();
     let object = walk.object;

@@ -23,7 +23,7 @@ use Rattle.jl_progress.specs.declared.global.NumberTest.{NumberTest}
 use Rattle.jl_progress.specs.declared.number.NumberFunction.{NumberFunction}
 use Rattle.jl_progress.specs.declared.number.NumberProgress.TheVariants as number
 use Rattle.jl_progress.specs.declared.progress.Progress.TheVariants as progress
-use Rattle.jl_state.specs.Rest.{Works}
+use Rattle.jl_state.specs.Rest.{RefinesAlgorithm}
 use Rattle.jl_state.specs.declared.act.Act.{Act}
 use Rattle.jl_state.specs.declared.state.State.{State}
 use Rattle.jl_builtin.proofs.Conversions.{as_integer, as_number, as_string, missing, there}
@@ -35,54 +35,57 @@ argument_is c args i v args_are is = is ∙ ap (λ l. slice_index_or l i value.U
 
 module _ (s t : State) (a : Act) (c : Call) where
   pub numeral_waits : (numeral radix : Value) → numeral ≡ argument c 0 → radix ≡ argument c 1
-      → Works s (to_primitive string_hint numeral >>= progress_after (progress.Global (global.Numeral radix))) t a
-      → Works s (parse_int c) t a
-  numeral_waits numeral radix numeral_is radix_is leads =
-      subst (λ (w : Value). Works s (to_string w >>= parsed (argument c 1)) t a) numeral_is
-      (subst (λ (w : Value). Works s (to_string numeral >>= parsed w) t a) radix_is
+      → RefinesAlgorithm s (to_primitive string_hint numeral >>= progress_after
+      (progress.Global (global.Numeral radix))) t a
+      → RefinesAlgorithm s (parse_int c) t a
+  numeral_waits numeral radix numeral_is radix_is refines =
+      subst (λ (w : Value). RefinesAlgorithm s (to_string w >>= parsed (argument c 1)) t a) numeral_is
+      (subst (λ (w : Value). RefinesAlgorithm s (to_string numeral >>= parsed w) t a) radix_is
       (as_string s t a numeral (progress_after (progress.Global (global.Numeral radix))) (parsed radix) (λ p. refl)
-      leads))
+      refines))
     where
       parsed : Value → List ℕ → Algorithm Value
       parsed w units = to_number w >>= λ n. parse_in n units
 
   pub test_waits : (which : NumberTest) (v : Value) → v ≡ argument c 0
-      → Works s (to_primitive number_hint v >>= progress_after (progress.Global (global.Test which))) t a
-      → Works s (to_number (argument c 0) >>= λ n. give_truth (passes which n)) t a
-  test_waits which v is leads =
-      subst (λ (w : Value). Works s (to_number w >>= λ n. give_truth (passes which n)) t a) is
+      → RefinesAlgorithm s (to_primitive number_hint v >>= progress_after (progress.Global (global.Test which))) t a
+      → RefinesAlgorithm s (to_number (argument c 0) >>= λ n. give_truth (passes which n)) t a
+  test_waits which v is refines =
+      subst (λ (w : Value). RefinesAlgorithm s (to_number w >>= λ n. give_truth (passes which n)) t a) is
       (as_number s t a v (progress_after (progress.Global (global.Test which))) (λ n. give_truth (passes which n))
-      (λ p. refl) leads)
+      (λ p. refl) refines)
 
   pub argument_waits : (f : NumberFunction) (v : Value) → v ≡ argument c 0
-      → Works s (to_primitive number_hint v >>= progress_after (progress.Number (number.Argument f))) t a
-      → Works s (on_argument (of_number f) c) t a
-  argument_waits f v is leads =
-      subst (λ (w : Value). Works s (to_number w >>= λ n. give (value.Num (of_number f n))) t a) is
+      → RefinesAlgorithm s (to_primitive number_hint v >>= progress_after (progress.Number (number.Argument f))) t a
+      → RefinesAlgorithm s (on_argument (of_number f) c) t a
+  argument_waits f v is refines =
+      subst (λ (w : Value). RefinesAlgorithm s (to_number w >>= λ n. give (value.Num (of_number f n))) t a) is
       (as_number s t a v (progress_after (progress.Number (number.Argument f)))
-      (λ n. give (value.Num (of_number f n))) (λ p. refl) leads)
+      (λ n. give (value.Num (of_number f n))) (λ p. refl) refines)
 
   pub base_waits : (base exponent : Value) → base ≡ argument c 0 → exponent ≡ argument c 1
-      → Works s (to_primitive number_hint base >>= progress_after (progress.Number (number.Base exponent))) t a
-      → Works s (math_pow c) t a
-  base_waits base exponent base_is exponent_is leads =
-      subst (λ (w : Value). Works s (to_number w >>= raised (argument c 1)) t a) base_is
-      (subst (λ (w : Value). Works s (to_number base >>= raised w) t a) exponent_is
+      → RefinesAlgorithm s (to_primitive number_hint base >>= progress_after
+      (progress.Number (number.Base exponent))) t a
+      → RefinesAlgorithm s (math_pow c) t a
+  base_waits base exponent base_is exponent_is refines =
+      subst (λ (w : Value). RefinesAlgorithm s (to_number w >>= raised (argument c 1)) t a) base_is
+      (subst (λ (w : Value). RefinesAlgorithm s (to_number base >>= raised w) t a) exponent_is
       (as_number s t a base (progress_after (progress.Number (number.Base exponent))) (raised exponent) (λ p. refl)
-      leads))
+      refines))
     where
       raised : Value → Number → Algorithm Value
       raised w x = to_number w >>= λ y. give_number (power_of x y)
 
 -- the radix of a number's string
 module _ (s t : State) (a : Act) (n : Number) where
-  pub radix_missing : (radix : Value) → is_undefined radix ≡ true → Works s (string_in_radix n (pos 10)) t a
-      → Works s (unless_undefined (pos 10) to_integer radix >>= string_in_radix n) t a
-  radix_missing radix none leads = missing s t a (pos 10) to_integer radix (string_in_radix n) none leads
+  pub radix_missing : (radix : Value) → is_undefined radix ≡ true → RefinesAlgorithm s (string_in_radix n (pos 10)) t a
+      → RefinesAlgorithm s (unless_undefined (pos 10) to_integer radix >>= string_in_radix n) t a
+  radix_missing radix none refines = missing s t a (pos 10) to_integer radix (string_in_radix n) none refines
 
   pub radix_waits : (radix : Value) → is_undefined radix ≡ false
-      → Works s (to_primitive number_hint radix >>= progress_after (progress.Number (number.Radix n))) t a
-      → Works s (unless_undefined (pos 10) to_integer radix >>= string_in_radix n) t a
-  radix_waits radix some leads =
+      → RefinesAlgorithm s (to_primitive number_hint radix >>= progress_after (progress.Number (number.Radix n))) t a
+      → RefinesAlgorithm s (unless_undefined (pos 10) to_integer radix >>= string_in_radix n) t a
+  radix_waits radix some refines =
       there s t a (pos 10) to_integer radix (string_in_radix n) some
-      (as_integer s t a radix (progress_after (progress.Number (number.Radix n))) (string_in_radix n) (λ p. refl) leads)
+      (as_integer s t a radix (progress_after (progress.Number (number.Radix n))) (string_in_radix n)
+      (λ p. refl) refines)

@@ -17,7 +17,7 @@ use Rattle.jl_progress.specs.Globals.{line_with}
 use Rattle.jl_progress.specs.Progress.{progress_after}
 use Rattle.jl_progress.specs.declared.global.GlobalProgress.TheVariants as global
 use Rattle.jl_progress.specs.declared.progress.Progress.TheVariants as progress
-use Rattle.jl_state.specs.Rest.{as_value, rest_of, run_in, run_state, Works}
+use Rattle.jl_state.specs.Rest.{as_value, continuation_of, run_in, run_state, RefinesAlgorithm}
 use Rattle.jl_state.specs.Steps.{Took}
 use Rattle.jl_state.specs.declared.act.Act.{Act}
 use Rattle.jl_state.specs.declared.act.Act.TheVariants as act
@@ -45,22 +45,24 @@ module _ (s : State) (bytes : List ℕ) where
   -- what a run comes to from the print on, where there is room or not
   printed : (room : Bool) → nat_le (length (s.output ++ bytes ++ 10 ∷ [])) 16777216 ≡ room → (p : Algorithm Value)
       (kept : Operation → Bool) (told : List Operation)
-      → run_in kept told s (and_then (as_value (lift (Print bytes p))) (rest_of s))
-      ≡ (if room then run_in kept told printed_state (and_then (as_value (lift p)) (rest_of s))
+      → run_in kept told s (and_then (as_value (lift (Print bytes p))) (continuation_of s))
+      ≡ (if room then run_in kept told printed_state (and_then (as_value (lift p)) (continuation_of s))
       else Over (Fails OutputTooLong) s.left (run_state told s))
   unfolding language
   printed room is p kept told =
-      ap (λ (b : Bool). if b then run_in kept told printed_state (and_then (as_value (lift p)) (rest_of s))
+      ap (λ (b : Bool). if b then run_in kept told printed_state (and_then (as_value (lift p)) (continuation_of s))
       else Over (Fails OutputTooLong) s.left (run_state told s)) is
 
 -- a line is printed, and then undefined given
 pub prints : (s : State) (units bytes line out : List ℕ) (n m : ℕ) (room : Bool) → bytes ≡ bytes_of units
     → n ≡ length s.output → m ≡ length bytes → room ≡ nat_le (n + (m + 1)) 16777216 → room ≡ true → line ≡ bytes
     → out ≡ s.output ++ line ++ 10 ∷ []
-    → Works s (print_line units) (record s { output = out }) (act.Give value.Undefined)
+    → RefinesAlgorithm s (print_line units) (record s { output = out }) (act.Give value.Undefined)
 prints s units bytes line out n m room is before more able there same made =
-    subst (λ b. Works s (Print b (give value.Undefined)) (record s { output = out }) (act.Give value.Undefined)) is
-    (subst (λ o. Works s (Print bytes (give value.Undefined)) (record s { output = o }) (act.Give value.Undefined))
+    subst (λ b. RefinesAlgorithm s (Print b (give value.Undefined)) (record s { output = out })
+    (act.Give value.Undefined)) is
+    (subst (λ o. RefinesAlgorithm s (Print bytes (give value.Undefined)) (record s { output = o })
+    (act.Give value.Undefined))
     (sym (made ∙ ap (λ l. s.output ++ l ++ 10 ∷ []) same))
     (record {
       is = λ kept told. sym (printed s bytes true (room_is s bytes true fits) (give value.Undefined) kept told);
@@ -73,9 +75,9 @@ prints s units bytes line out n m room is before more able there same made =
 -- or the run ends, where there is no room for it
 pub no_room : (s : State) (units bytes : List ℕ) (n m : ℕ) (room : Bool) → bytes ≡ bytes_of units
     → n ≡ length s.output → m ≡ length bytes → room ≡ nat_le (n + (m + 1)) 16777216 → room ≡ false
-    → Works s (print_line units) s (act.Fault OutputTooLong)
+    → RefinesAlgorithm s (print_line units) s (act.Fault OutputTooLong)
 no_room s units bytes n m room is before more able none =
-    subst (λ b. Works s (Print b (give value.Undefined)) s (act.Fault OutputTooLong)) is
+    subst (λ b. RefinesAlgorithm s (Print b (give value.Undefined)) s (act.Fault OutputTooLong)) is
     (record {
       is = λ kept told. sym (printed s bytes false (room_is s bytes false full) (give value.Undefined) kept told);
     })
@@ -87,10 +89,11 @@ no_room s units bytes n m room is before more able none =
 -- an argument is converted, after a step
 pub converts_argument : (s t : State) (line : List ℕ) (is_first : Bool) (v : Value) (args : List Value) (from : ℕ)
     (u : State) (a : Act) → Took s t
-    → Works t (to_primitive string_hint v
+    → RefinesAlgorithm t (to_primitive string_hint v
     >>= progress_after (progress.Global (global.Print line is_first args from))) u a
-    → Works s (Step (to_string v >>= λ units. print_others (line_with line is_first units) (drop from args))) u a
-converts_argument s t line is_first v args from u a took leads =
+    → RefinesAlgorithm s (Step (to_string v >>= λ units. print_others (line_with line is_first units)
+    (drop from args))) u a
+converts_argument s t line is_first v args from u a took refines =
     took.works (to_string v >>= λ units. print_others (line_with line is_first units) (drop from args)) u a
     (as_string t u a v (progress_after (progress.Global (global.Print line is_first args from)))
-    (λ units. print_others (line_with line is_first units) (drop from args)) (λ p. refl) leads)
+    (λ units. print_others (line_with line is_first units) (drop from args)) (λ p. refl) refines)

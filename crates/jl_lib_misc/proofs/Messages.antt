@@ -15,12 +15,12 @@ use Rattle.jl_meaning.specs.Store.{Store}
 use Rattle.jl_meaning.specs.builtins.Arguments.{argument, give_object, need_object}
 use Rattle.jl_meaning.specs.builtins.Error.{error_constructor, error_to_string, message_given, name_and_message}
 use Rattle.jl_meaning.specs.builtins.Error.{new_error}
-use Rattle.jl_store.specs.Comes.{Comes}
+use Rattle.jl_store.specs.BigStep.{BigStep}
 use Rattle.jl_progress.specs.Errors.{error_after}
 use Rattle.jl_progress.specs.Progress.{progress_after}
 use Rattle.jl_progress.specs.declared.error.ErrorProgress.TheVariants as error
 use Rattle.jl_progress.specs.declared.progress.Progress.TheVariants as progress
-use Rattle.jl_state.specs.Rest.{Works}
+use Rattle.jl_state.specs.Rest.{RefinesAlgorithm}
 use Rattle.jl_state.specs.declared.act.Act.{Act}
 use Rattle.jl_state.specs.declared.act.Act.TheVariants as act
 use Rattle.jl_state.specs.declared.state.State.{State}
@@ -31,8 +31,8 @@ use Rattle.jl_builtin.proofs.Conversions.{as_string, missing, there}
 
 -- the error that was made is given
 pub gives_error : (s : State) (x : Store) (proto id : ObjId) (message : Option (List ℕ))
-    → Comes (new_error proto message) s.store x (Ends (gives id))
-    → Works s (new_error proto message >>= give_object) (record s { store = x }) (act.Give (value.Obj id))
+    → BigStep (new_error proto message) s.store x (Ends (gives id))
+    → RefinesAlgorithm s (new_error proto message >>= give_object) (record s { store = x }) (act.Give (value.Obj id))
 gives_error s x proto id message comes =
     works_comes s (record s { store = x }) refl (new_error proto message) id give_object (record s { store = x })
     (act.Give (value.Obj id)) comes (record { is = λ kept told. refl })
@@ -50,23 +50,23 @@ message_there (value.Obj id) k e = sym (bind_assoc (to_string (value.Obj id)) (�
 
 pub constructs_with : (s : State) (proto : ObjId) (c : parts.Call) (v : Value) (t : State) (a : Act)
     → v ≡ argument c 0 → is_undefined v ≡ false
-    → Works s (to_primitive string_hint v >>= progress_after (progress.Error (error.NewMessage proto))) t a
-    → Works s (error_constructor proto c) t a
-constructs_with s proto c v t a is given leads =
-    subst (λ w. Works s (message_given w >>= k) t a) is
-    (subst (λ p. Works s p t a) (message_there v k given)
+    → RefinesAlgorithm s (to_primitive string_hint v >>= progress_after (progress.Error (error.NewMessage proto))) t a
+    → RefinesAlgorithm s (error_constructor proto c) t a
+constructs_with s proto c v t a is given refines =
+    subst (λ w. RefinesAlgorithm s (message_given w >>= k) t a) is
+    (subst (λ p. RefinesAlgorithm s p t a) (message_there v k given)
     (as_string s t a v (progress_after (progress.Error (error.NewMessage proto))) (λ units. k (Some units)) (λ p. refl)
-    leads))
+    refines))
   where
     k : Option (List ℕ) → Algorithm Value
     k m = new_error proto m >>= give_object
 
 pub constructs_without : (s : State) (proto : ObjId) (c : parts.Call) (v : Value) (t : State) (a : Act)
-    → v ≡ argument c 0 → is_undefined v ≡ true → Works s (new_error proto None >>= give_object) t a
-    → Works s (error_constructor proto c) t a
-constructs_without s proto c v t a is none leads =
-    subst (λ w. Works s (message_given w >>= k) t a) is
-    (missing s t a None (λ w. to_string w >>= λ units. give (Some units)) v k none leads)
+    → v ≡ argument c 0 → is_undefined v ≡ true → RefinesAlgorithm s (new_error proto None >>= give_object) t a
+    → RefinesAlgorithm s (error_constructor proto c) t a
+constructs_without s proto c v t a is none refines =
+    subst (λ w. RefinesAlgorithm s (message_given w >>= k) t a) is
+    (missing s t a None (λ w. to_string w >>= λ units. give (Some units)) v k none refines)
   where
     k : Option (List ℕ) → Algorithm Value
     k m = new_error proto m >>= give_object
@@ -74,16 +74,16 @@ constructs_without s proto c v t a is none leads =
 -- Error.prototype.toString
 
 pub no_error_object : (s : State) (c : parts.Call) (t : State) (a : Act) → ((id : ObjId) → c.this ≡ value.Obj id → ⊥)
-    → Works s (throw_type_error (codes "not an object")) t a → Works s (error_to_string c) t a
-no_error_object s c t a none leads = by c.this none
+    → RefinesAlgorithm s (throw_type_error (codes "not an object")) t a → RefinesAlgorithm s (error_to_string c) t a
+no_error_object s c t a none refines = by c.this none
   where
     k : ObjId → Algorithm Value
     k id = get (value.Obj id) (codes "name") >>= error_after (error.Name id)
 
-    thrown : Works s (throw_type_error (codes "not an object") >>= k) t a
-    thrown = works_left_out s TypeError (codes "not an object") k t a leads
+    thrown : RefinesAlgorithm s (throw_type_error (codes "not an object") >>= k) t a
+    thrown = works_left_out s TypeError (codes "not an object") k t a refines
 
-    by : (v : Value) → ((id : ObjId) → v ≡ value.Obj id → ⊥) → Works s (need_object v >>= k) t a
+    by : (v : Value) → ((id : ObjId) → v ≡ value.Obj id → ⊥) → RefinesAlgorithm s (need_object v >>= k) t a
     by (value.Obj id) differs = absurd (differs id refl)
     by v differs = thrown
 
@@ -91,31 +91,33 @@ abbrev pub message_of : ObjId → List ℕ → Algorithm Value
 message_of object name = get (value.Obj object) (codes "message") >>= error_after (error.Message name)
 
 pub name_missing : (s : State) (object : ObjId) (v : Value) (name : List ℕ) (t : State) (a : Act)
-    → is_undefined v ≡ true → name ≡ codes "Error" → Works s (message_of object name) t a
-    → Works s (error_after (error.Name object) v) t a
-name_missing s object v name t a none is leads =
+    → is_undefined v ≡ true → name ≡ codes "Error" → RefinesAlgorithm s (message_of object name) t a
+    → RefinesAlgorithm s (error_after (error.Name object) v) t a
+name_missing s object v name t a none is refines =
     missing s t a (codes "Error") to_string v (message_of object) none
-    (subst (λ x. Works s (message_of object x) t a) is leads)
+    (subst (λ x. RefinesAlgorithm s (message_of object x) t a) is refines)
 
 pub name_waits : (s : State) (object : ObjId) (v : Value) (t : State) (a : Act) → is_undefined v ≡ false
-    → Works s (to_primitive string_hint v >>= progress_after (progress.Error (error.NamePrimitive object))) t a
-    → Works s (error_after (error.Name object) v) t a
-name_waits s object v t a given leads =
+    → RefinesAlgorithm s (to_primitive string_hint v >>= progress_after
+    (progress.Error (error.NamePrimitive object))) t a
+    → RefinesAlgorithm s (error_after (error.Name object) v) t a
+name_waits s object v t a given refines =
     there s t a (codes "Error") to_string v (message_of object) given
     (as_string s t a v (progress_after (progress.Error (error.NamePrimitive object))) (message_of object) (λ p. refl)
-    leads)
+    refines)
 
 pub message_missing : (s : State) (name : List ℕ) (v : Value) (message : List ℕ) (t : State) (a : Act)
-    → is_undefined v ≡ true → message ≡ [] → Works s (name_and_message name message) t a
-    → Works s (error_after (error.Message name) v) t a
-message_missing s name v message t a none is leads =
+    → is_undefined v ≡ true → message ≡ [] → RefinesAlgorithm s (name_and_message name message) t a
+    → RefinesAlgorithm s (error_after (error.Message name) v) t a
+message_missing s name v message t a none is refines =
     missing s t a [] to_string v (name_and_message name) none
-    (subst (λ x. Works s (name_and_message name x) t a) is leads)
+    (subst (λ x. RefinesAlgorithm s (name_and_message name x) t a) is refines)
 
 pub message_waits : (s : State) (name : List ℕ) (v : Value) (t : State) (a : Act) → is_undefined v ≡ false
-    → Works s (to_primitive string_hint v >>= progress_after (progress.Error (error.MessagePrimitive name))) t a
-    → Works s (error_after (error.Message name) v) t a
-message_waits s name v t a given leads =
+    → RefinesAlgorithm s (to_primitive string_hint v >>= progress_after
+    (progress.Error (error.MessagePrimitive name))) t a
+    → RefinesAlgorithm s (error_after (error.Message name) v) t a
+message_waits s name v t a given refines =
     there s t a [] to_string v (name_and_message name) given
     (as_string s t a v (progress_after (progress.Error (error.MessagePrimitive name))) (name_and_message name)
-    (λ p. refl) leads)
+    (λ p. refl) refines)

@@ -21,8 +21,8 @@ pub(crate) fn boolean_constructor<'p>(
     state: &mut State<'p>,
     call: &Invocation,
 ) -> Result<Act<'p>, NoMemory>
-    ensures leads { Computes state.old (boolean_constructor (call_of call.now)) result state.new }
-    ensures falls { RankAtMost state.old 3 result state.new }
+    ensures refines { Computes state.old (boolean_constructor (call_of call.now)) result state.new }
+    ensures bounded { RankAtMost state.old 3 result state.new }
 {
     let alloc = state.alloc();
     let first = argument(alloc, call.args.items(), 0)?;
@@ -62,8 +62,8 @@ pub(crate) fn boolean_to_string<'p>(
     state: &mut State<'p>,
     call: &Invocation,
 ) -> Result<Act<'p>, NoMemory>
-    ensures leads { Computes state.old (boolean_to_string (call_of call.now)) result state.new }
-    ensures falls { RankAtMost state.old 3 result state.new }
+    ensures refines { Computes state.old (boolean_to_string (call_of call.now)) result state.new }
+    ensures bounded { RankAtMost state.old 3 result state.new }
 {
     let alloc = state.alloc();
     match boolean_of_receiver(&state.store, &call.this) {
@@ -77,8 +77,8 @@ pub(crate) fn boolean_value_of<'p>(
     state: &mut State<'p>,
     call: &Invocation,
 ) -> Result<Act<'p>, NoMemory>
-    ensures leads { Computes state.old (boolean_value_of (call_of call.now)) result state.new }
-    ensures falls { RankAtMost state.old 3 result state.new }
+    ensures refines { Computes state.old (boolean_value_of (call_of call.now)) result state.new }
+    ensures bounded { RankAtMost state.old 3 result state.new }
 {
     match boolean_of_receiver(&state.store, &call.this) {
         Some(truth) => Ok(Act::Give(Value::Bool(truth))),

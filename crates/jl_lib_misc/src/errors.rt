@@ -9,10 +9,10 @@ ghost use Rattle.jl_progress.specs.Errors.{error_after, rank_error};
 ghost use Rattle.jl_progress.specs.declared.error.ErrorProgress.TheVariants as progress;
 ghost use Rattle.jl_state.specs.Clauses.{Computes, RankAtMost};
 ghost use Rattle.jl_state.specs.Rank.{rank_act};
-ghost use Rattle.jl_state.specs.Rest.{Works};
+ghost use Rattle.jl_state.specs.Rest.{RefinesAlgorithm};
 ghost use Rattle.jl_state.specs.Words.{call_of};
 ghost use Rattle.jl_state.specs.declared.state.State.{State as Machine};
-ghost use Rattle.jl_store.specs.Comes.{Comes};
+ghost use Rattle.jl_store.specs.BigStep.{BigStep};
 ghost use Rattle.jl_value.specs.declared.value.Value.TheVariants as value;
 
 use jl_algorithm::{get, throw_native};
@@ -33,7 +33,7 @@ fn new_error(
     proto: ObjId,
     message: Option<Text>,
 ) -> Result<ObjId, NoMemory>
-    ensures { IfOk result (λ id. Comes (new_error proto message) store.old store.new (Ends (gives id))) }
+    ensures { IfOk result (λ id. BigStep (new_error proto message) store.old store.new (Ends (gives id))) }
 {
     let name = word(alloc, "message")?;
     let id = store.new_object(Class::Error, Some(proto), Inner::Nothing)?;
@@ -55,8 +55,8 @@ fn give_error<'p>(
     proto: ObjId,
     message: Option<Text>,
 ) -> Result<Act<'p>, NoMemory>
-    ensures leads { Computes state.old (new_error proto message then give_object) result state.new }
-    ensures falls { RankAtMost state.old 3 result state.new }
+    ensures refines { Computes state.old (new_error proto message then give_object) result state.new }
+    ensures bounded { RankAtMost state.old 3 result state.new }
 {
     let alloc = state.alloc();
     let id = new_error(alloc, &mut state.store, proto, message)?;
@@ -70,8 +70,8 @@ pub(crate) fn error_constructor<'p>(
     proto: ObjId,
     call: &Invocation,
 ) -> Result<Act<'p>, NoMemory>
-    ensures leads { Computes state.old (error_constructor proto (call_of call.now)) result state.new }
-    ensures falls { RankAtMost state.old 22 result state.new }
+    ensures refines { Computes state.old (error_constructor proto (call_of call.now)) result state.new }
+    ensures bounded { RankAtMost state.old 22 result state.new }
 {
     let alloc = state.alloc();
     let message = argument(alloc, call.args.items(), 0)?;
@@ -88,8 +88,8 @@ fn resume_new_message<'p>(
     proto: ObjId,
     p: &Value,
 ) -> Result<Act<'p>, NoMemory>
-    ensures leads { Computes state.old (error_after (progress.NewMessage proto) p.now) result state.new }
-    ensures falls { RankAtMost state.old 3 result state.new }
+    ensures refines { Computes state.old (error_after (progress.NewMessage proto) p.now) result state.new }
+    ensures bounded { RankAtMost state.old 3 result state.new }
 {
     let alloc = state.alloc();
     let text = text_of(alloc, p)?;
@@ -101,8 +101,8 @@ pub(crate) fn error_to_string<'p>(
     state: &mut State<'p>,
     call: &Invocation,
 ) -> Result<Act<'p>, NoMemory>
-    ensures leads { Computes state.old (error_to_string (call_of call.now)) result state.new }
-    ensures falls { RankAtMost state.old 84 result state.new }
+    ensures refines { Computes state.old (error_to_string (call_of call.now)) result state.new }
+    ensures bounded { RankAtMost state.old 84 result state.new }
 {
     let alloc = state.alloc();
     let Value::Obj(object) = &call.this else {
@@ -117,8 +117,8 @@ pub(crate) fn error_to_string<'p>(
 
 /// Goes on with the name of an error (steps 3 and 4).
 fn resume_name<'p>(state: &mut State<'p>, object: ObjId, v: Value) -> Result<Act<'p>, NoMemory>
-    ensures leads { Computes state.old (error_after (progress.Name object) v) result state.new }
-    ensures falls { RankAtMost state.old 76 result state.new }
+    ensures refines { Computes state.old (error_after (progress.Name object) v) result state.new }
+    ensures bounded { RankAtMost state.old 76 result state.new }
 {
     let alloc = state.alloc();
     if is_undefined(&v) {
@@ -135,8 +135,8 @@ fn resume_name_primitive<'p>(
     object: ObjId,
     p: &Value,
 ) -> Result<Act<'p>, NoMemory>
-    ensures leads { Computes state.old (error_after (progress.NamePrimitive object) p.now) result state.new }
-    ensures falls { RankAtMost state.old 44 result state.new }
+    ensures refines { Computes state.old (error_after (progress.NamePrimitive object) p.now) result state.new }
+    ensures bounded { RankAtMost state.old 44 result state.new }
 {
     let alloc = state.alloc();
     let name = text_of(alloc, p)?;
@@ -145,9 +145,9 @@ fn resume_name_primitive<'p>(
 
 /// The message of an error with this name is got (step 5).
 fn get_message<'p>(state: &mut State<'p>, object: ObjId, name: Text) -> Result<Act<'p>, NoMemory>
-    ensures leads { Computes state.old (get (value.Obj object) (codes "message") then error_after (progress.Message
+    ensures refines { Computes state.old (get (value.Obj object) (codes "message") then error_after (progress.Message
         name)) result state.new }
-    ensures falls { RankAtMost state.old 44 result state.new }
+    ensures bounded { RankAtMost state.old 44 result state.new }
 {
     let alloc = state.alloc();
     let message = word(alloc, "message")?;
@@ -158,8 +158,8 @@ fn get_message<'p>(state: &mut State<'p>, object: ObjId, name: Text) -> Result<A
 
 /// Goes on with the message of an error (steps 6 and 7).
 fn resume_message<'p>(state: &mut State<'p>, name: Text, v: Value) -> Result<Act<'p>, NoMemory>
-    ensures leads { Computes state.old (error_after (progress.Message name) v) result state.new }
-    ensures falls { RankAtMost state.old 22 result state.new }
+    ensures refines { Computes state.old (error_after (progress.Message name) v) result state.new }
+    ensures bounded { RankAtMost state.old 22 result state.new }
 {
     let alloc = state.alloc();
     if is_undefined(&v) {
@@ -176,8 +176,8 @@ fn resume_message_primitive<'p>(
     name: Text,
     p: &Value,
 ) -> Result<Act<'p>, NoMemory>
-    ensures leads { Computes state.old (error_after (progress.MessagePrimitive name) p.now) result state.new }
-    ensures falls { RankAtMost state.old 3 result state.new }
+    ensures refines { Computes state.old (error_after (progress.MessagePrimitive name) p.now) result state.new }
+    ensures bounded { RankAtMost state.old 3 result state.new }
 {
     let alloc = state.alloc();
     let message = text_of(alloc, p)?;
@@ -186,7 +186,7 @@ fn resume_message_primitive<'p>(
 
 /// A name and a message, with a colon between where neither is empty (steps 8 to 10).
 fn name_and_message<'p>(alloc: Global, name: Text, message: Text) -> Result<Act<'p>, NoMemory>
-    ensures leads { IfOk result (λ act. (s : Machine) → Works s (name_and_message name message) s act) }
+    ensures refines { IfOk result (λ act. (s : Machine) → RefinesAlgorithm s (name_and_message name message) s act) }
     ensures low { IfOk result (λ act. rank_act act ≤ 2) }
 {
     if name.units().is_empty() {
@@ -218,8 +218,8 @@ pub fn resume_error<'p>(
     progress: ErrorProgress,
     v: Value,
 ) -> Result<Act<'p>, NoMemory>
-    ensures leads { Computes state.old (error_after progress v) result state.new }
-    ensures falls { RankAtMost state.old (rank_error progress + 2) result state.new }
+    ensures refines { Computes state.old (error_after progress v) result state.new }
+    ensures bounded { RankAtMost state.old (rank_error progress + 2) result state.new }
 {
     match progress {
         ErrorProgress::NewMessage { proto } => resume_new_message(state, proto, &v),

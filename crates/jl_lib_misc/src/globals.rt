@@ -9,7 +9,7 @@ ghost use Rattle.jl_progress.specs.Globals.{global_after, parse_in, passes, rank
 ghost use Rattle.jl_progress.specs.declared.global.GlobalProgress.TheVariants as progress;
 ghost use Rattle.jl_state.specs.Clauses.{Computes, RankAtMost};
 ghost use Rattle.jl_state.specs.Rank.{rank_act};
-ghost use Rattle.jl_state.specs.Rest.{Works};
+ghost use Rattle.jl_state.specs.Rest.{RefinesAlgorithm};
 ghost use Rattle.jl_state.specs.Words.{call_of};
 ghost use Rattle.jl_state.specs.declared.state.State.{State as Machine};
 
@@ -26,8 +26,8 @@ use std::alloc::Global;
 
 /// `parseInt(string, radix)` (15.1.2.2).
 pub(crate) fn parse_int<'p>(state: &mut State<'p>, call: &Invocation) -> Result<Act<'p>, NoMemory>
-    ensures leads { Computes state.old (parse_int (call_of call.now)) result state.new }
-    ensures falls { RankAtMost state.old 46 result state.new }
+    ensures refines { Computes state.old (parse_int (call_of call.now)) result state.new }
+    ensures bounded { RankAtMost state.old 46 result state.new }
 {
     let alloc = state.alloc();
     let args = call.args.items();
@@ -39,8 +39,8 @@ pub(crate) fn parse_int<'p>(state: &mut State<'p>, call: &Invocation) -> Result<
 
 /// The radix of `parseInt` is converted.
 fn convert_radix<'p>(state: &mut State<'p>, units: Text, radix: Value) -> Result<Act<'p>, NoMemory>
-    ensures leads { Computes state.old (to_number radix then λ n. parse_in n units) result state.new }
-    ensures falls { RankAtMost state.old 22 result state.new }
+    ensures refines { Computes state.old (to_number radix then λ n. parse_in n units) result state.new }
+    ensures bounded { RankAtMost state.old 22 result state.new }
 {
     let progress = Progress::Global(GlobalProgress::Radix { units });
     wait_for_number(state, progress, radix)
@@ -48,7 +48,7 @@ fn convert_radix<'p>(state: &mut State<'p>, units: Text, radix: Value) -> Result
 
 /// The number that a string writes in front is given.
 fn give_parsed<'p>(radix: Num, units: &[u16]) -> Act<'p>
-    ensures leads { (s : Machine) → Works s (parse_in radix units.now) s result }
+    ensures refines { (s : Machine) → RefinesAlgorithm s (parse_in radix units.now) s result }
     ensures low { rank_act result ≤ 2 }
 {
     match parse_signed(to_int32(radix), units) {
@@ -63,9 +63,9 @@ pub(crate) fn test_argument<'p>(
     test: NumberTest,
     call: &Invocation,
 ) -> Result<Act<'p>, NoMemory>
-    ensures leads { Computes state.old (to_number (argument (call_of call.now) 0) then λ n. give_truth (passes test
+    ensures refines { Computes state.old (to_number (argument (call_of call.now) 0) then λ n. give_truth (passes test
         n)) result state.new }
-    ensures falls { RankAtMost state.old 22 result state.new }
+    ensures bounded { RankAtMost state.old 22 result state.new }
 {
     let alloc = state.alloc();
     let first = argument(alloc, call.args.items(), 0)?;
@@ -85,8 +85,8 @@ fn passes(test: NumberTest, n: Num) -> bool
 
 /// Goes on with the string of `parseInt`.
 fn resume_numeral<'p>(state: &mut State<'p>, radix: Value, p: &Value) -> Result<Act<'p>, NoMemory>
-    ensures leads { Computes state.old (global_after (progress.Numeral radix) p.now) result state.new }
-    ensures falls { RankAtMost state.old 22 result state.new }
+    ensures refines { Computes state.old (global_after (progress.Numeral radix) p.now) result state.new }
+    ensures bounded { RankAtMost state.old 22 result state.new }
 {
     let alloc = state.alloc();
     let units = text_of(alloc, p)?;
@@ -95,8 +95,8 @@ fn resume_numeral<'p>(state: &mut State<'p>, radix: Value, p: &Value) -> Result<
 
 /// Goes on with the radix of `parseInt`.
 fn resume_radix<'p>(state: &mut State<'p>, units: &Text, p: &Value) -> Result<Act<'p>, NoMemory>
-    ensures leads { Computes state.old (global_after (progress.Radix units.now) p.now) result state.new }
-    ensures falls { RankAtMost state.old 3 result state.new }
+    ensures refines { Computes state.old (global_after (progress.Radix units.now) p.now) result state.new }
+    ensures bounded { RankAtMost state.old 3 result state.new }
 {
     match number_of(p) {
         Ok(radix) => Ok(give_parsed(radix, units.units())),
@@ -106,8 +106,8 @@ fn resume_radix<'p>(state: &mut State<'p>, units: &Text, p: &Value) -> Result<Ac
 
 /// Goes on with a number of which something is asked.
 fn resume_test<'p>(state: &mut State<'p>, test: NumberTest, p: &Value) -> Result<Act<'p>, NoMemory>
-    ensures leads { Computes state.old (global_after (progress.Test test) p.now) result state.new }
-    ensures falls { RankAtMost state.old 3 result state.new }
+    ensures refines { Computes state.old (global_after (progress.Test test) p.now) result state.new }
+    ensures bounded { RankAtMost state.old 3 result state.new }
 {
     match number_of(p) {
         Ok(n) => Ok(Act::Give(Value::Bool(passes(test, n)))),
@@ -121,8 +121,8 @@ pub fn resume_global<'p>(
     progress: GlobalProgress,
     v: Value,
 ) -> Result<Act<'p>, NoMemory>
-    ensures leads { Computes state.old (global_after progress v) result state.new }
-    ensures falls { RankAtMost state.old (rank_global progress + 2) result state.new }
+    ensures refines { Computes state.old (global_after progress v) result state.new }
+    ensures bounded { RankAtMost state.old (rank_global progress + 2) result state.new }
 {
     match progress {
         GlobalProgress::Print {

@@ -9,7 +9,7 @@ ghost use Rattle.jl_progress.specs.Numbers.{number_after, of_number};
 ghost use Rattle.jl_progress.specs.declared.number.NumberProgress.TheVariants as progress;
 ghost use Rattle.jl_state.specs.Clauses.{Computes, RankAtMost};
 ghost use Rattle.jl_state.specs.Rank.{rank_act};
-ghost use Rattle.jl_state.specs.Rest.{Works};
+ghost use Rattle.jl_state.specs.Rest.{RefinesAlgorithm};
 ghost use Rattle.jl_state.specs.Words.{call_of};
 ghost use Rattle.jl_state.specs.declared.state.State.{State as Machine};
 
@@ -27,8 +27,8 @@ pub(crate) fn on_argument<'p>(
     function: NumberFunction,
     call: &Invocation,
 ) -> Result<Act<'p>, NoMemory>
-    ensures leads { Computes state.old (on_argument (of_number function) (call_of call.now)) result state.new }
-    ensures falls { RankAtMost state.old 22 result state.new }
+    ensures refines { Computes state.old (on_argument (of_number function) (call_of call.now)) result state.new }
+    ensures bounded { RankAtMost state.old 22 result state.new }
 {
     let alloc = state.alloc();
     let first = argument(alloc, call.args.items(), 0)?;
@@ -52,8 +52,8 @@ pub(crate) fn resume_argument<'p>(
     function: NumberFunction,
     p: &Value,
 ) -> Result<Act<'p>, NoMemory>
-    ensures leads { Computes state.old (number_after (progress.Argument function) p.now) result state.new }
-    ensures falls { RankAtMost state.old 3 result state.new }
+    ensures refines { Computes state.old (number_after (progress.Argument function) p.now) result state.new }
+    ensures bounded { RankAtMost state.old 3 result state.new }
 {
     match number_of(p) {
         Ok(n) => Ok(Act::Give(Value::Num(of_number(function, n)))),
@@ -63,8 +63,8 @@ pub(crate) fn resume_argument<'p>(
 
 /// `Math.pow(x, y)` (15.8.2.13).
 pub(crate) fn math_pow<'p>(state: &mut State<'p>, call: &Invocation) -> Result<Act<'p>, NoMemory>
-    ensures leads { Computes state.old (math_pow (call_of call.now)) result state.new }
-    ensures falls { RankAtMost state.old 46 result state.new }
+    ensures refines { Computes state.old (math_pow (call_of call.now)) result state.new }
+    ensures bounded { RankAtMost state.old 46 result state.new }
 {
     let alloc = state.alloc();
     let args = call.args.items();
@@ -80,8 +80,8 @@ fn convert_exponent<'p>(
     base: Num,
     exponent: Value,
 ) -> Result<Act<'p>, NoMemory>
-    ensures leads { Computes state.old (to_number exponent then λ y. give_number (power_of base y)) result state.new }
-    ensures falls { RankAtMost state.old 22 result state.new }
+    ensures refines { Computes state.old (to_number exponent then λ y. give_number (power_of base y)) result state.new }
+    ensures bounded { RankAtMost state.old 22 result state.new }
 {
     let progress = Progress::Number(NumberProgress::Exponent { base });
     wait_for_number(state, progress, exponent)
@@ -93,8 +93,8 @@ pub(crate) fn resume_base<'p>(
     exponent: Value,
     p: &Value,
 ) -> Result<Act<'p>, NoMemory>
-    ensures leads { Computes state.old (number_after (progress.Base exponent) p.now) result state.new }
-    ensures falls { RankAtMost state.old 22 result state.new }
+    ensures refines { Computes state.old (number_after (progress.Base exponent) p.now) result state.new }
+    ensures bounded { RankAtMost state.old 22 result state.new }
 {
     match number_of(p) {
         Ok(base) => convert_exponent(state, base, exponent),
@@ -104,7 +104,7 @@ pub(crate) fn resume_base<'p>(
 
 /// A power is given.
 fn give_power<'p>(base: Num, exponent: Num) -> Act<'p>
-    ensures leads { (s : Machine) → Works s (give_number (power_of base exponent)) s result }
+    ensures refines { (s : Machine) → RefinesAlgorithm s (give_number (power_of base exponent)) s result }
     ensures low { rank_act result ≤ 2 }
 {
     match pow(base, exponent) {
@@ -119,8 +119,8 @@ pub(crate) fn resume_exponent<'p>(
     base: Num,
     p: &Value,
 ) -> Result<Act<'p>, NoMemory>
-    ensures leads { Computes state.old (number_after (progress.Exponent base) p.now) result state.new }
-    ensures falls { RankAtMost state.old 3 result state.new }
+    ensures refines { Computes state.old (number_after (progress.Exponent base) p.now) result state.new }
+    ensures bounded { RankAtMost state.old 3 result state.new }
 {
     match number_of(p) {
         Ok(exponent) => Ok(give_power(base, exponent)),

@@ -32,8 +32,8 @@ pub(crate) fn value_or_object<'p>(
     proto: ObjId,
     v: Value,
 ) -> Result<Act<'p>, NoMemory>
-    ensures leads { Computes state.old (value_or_object by_new class proto v) result state.new }
-    ensures falls { RankAtMost state.old 3 result state.new }
+    ensures refines { Computes state.old (value_or_object by_new class proto v) result state.new }
+    ensures bounded { RankAtMost state.old 3 result state.new }
 {
     if !by_new {
         return Ok(Act::Give(v));
@@ -44,8 +44,8 @@ pub(crate) fn value_or_object<'p>(
 
 /// A number, or with `new` an object that stands for it.
 fn number_or_object<'p>(state: &mut State<'p>, by_new: bool, n: Num) -> Result<Act<'p>, NoMemory>
-    ensures leads { Computes state.old (number_or_object by_new n) result state.new }
-    ensures falls { RankAtMost state.old 3 result state.new }
+    ensures refines { Computes state.old (number_or_object by_new n) result state.new }
+    ensures bounded { RankAtMost state.old 3 result state.new }
 {
     value_or_object(
         state,
@@ -61,8 +61,8 @@ pub(crate) fn number_constructor<'p>(
     state: &mut State<'p>,
     call: &Invocation,
 ) -> Result<Act<'p>, NoMemory>
-    ensures leads { Computes state.old (number_constructor (call_of call.now)) result state.new }
-    ensures falls { RankAtMost state.old 22 result state.new }
+    ensures refines { Computes state.old (number_constructor (call_of call.now)) result state.new }
+    ensures bounded { RankAtMost state.old 22 result state.new }
 {
     let alloc = state.alloc();
     let by_new = call.by_new;
@@ -91,8 +91,8 @@ pub(crate) fn resume_given<'p>(
     by_new: bool,
     p: &Value,
 ) -> Result<Act<'p>, NoMemory>
-    ensures leads { Computes state.old (number_after (progress.Given by_new) p.now) result state.new }
-    ensures falls { RankAtMost state.old 3 result state.new }
+    ensures refines { Computes state.old (number_after (progress.Given by_new) p.now) result state.new }
+    ensures bounded { RankAtMost state.old 3 result state.new }
 {
     match number_of(p) {
         Ok(n) => number_or_object(state, by_new, n),
@@ -158,8 +158,8 @@ fn radix_of(radix: i64) -> Option<u32>
 
 /// The string of a number is given in a radix, or a RangeError is thrown where it isn't 2 to 36.
 fn give_in_radix<'p>(state: &mut State<'p>, n: Num, radix: i64) -> Result<Act<'p>, NoMemory>
-    ensures leads { Computes state.old (string_in_radix n radix) result state.new }
-    ensures falls { RankAtMost state.old 3 result state.new }
+    ensures refines { Computes state.old (string_in_radix n radix) result state.new }
+    ensures bounded { RankAtMost state.old 3 result state.new }
 {
     let alloc = state.alloc();
     match radix_of(radix) {
@@ -170,9 +170,9 @@ fn give_in_radix<'p>(state: &mut State<'p>, n: Num, radix: i64) -> Result<Act<'p
 
 /// The radix is converted, or is 10 where it is undefined.
 fn convert_radix<'p>(state: &mut State<'p>, number: Num, radix: Value) -> Result<Act<'p>, NoMemory>
-    ensures leads { Computes state.old (unless_undefined (pos 10) to_integer radix then string_in_radix number)
+    ensures refines { Computes state.old (unless_undefined (pos 10) to_integer radix then string_in_radix number)
         result state.new }
-    ensures falls { RankAtMost state.old 22 result state.new }
+    ensures bounded { RankAtMost state.old 22 result state.new }
 {
     if is_undefined(&radix) {
         return give_in_radix(state, number, 10);
@@ -186,8 +186,8 @@ pub(crate) fn number_to_string<'p>(
     state: &mut State<'p>,
     call: &Invocation,
 ) -> Result<Act<'p>, NoMemory>
-    ensures leads { Computes state.old (number_to_string (call_of call.now)) result state.new }
-    ensures falls { RankAtMost state.old 22 result state.new }
+    ensures refines { Computes state.old (number_to_string (call_of call.now)) result state.new }
+    ensures bounded { RankAtMost state.old 22 result state.new }
 {
     let alloc = state.alloc();
     match number_of_receiver(&state.store, &call.this) {
@@ -205,8 +205,8 @@ pub(crate) fn resume_radix<'p>(
     number: Num,
     p: &Value,
 ) -> Result<Act<'p>, NoMemory>
-    ensures leads { Computes state.old (number_after (progress.Radix number) p.now) result state.new }
-    ensures falls { RankAtMost state.old 3 result state.new }
+    ensures refines { Computes state.old (number_after (progress.Radix number) p.now) result state.new }
+    ensures bounded { RankAtMost state.old 3 result state.new }
 {
     match number_of(p) {
         Ok(radix) => give_in_radix(state, number, integer_of(radix)),
@@ -219,8 +219,8 @@ pub(crate) fn number_value_of<'p>(
     state: &mut State<'p>,
     call: &Invocation,
 ) -> Result<Act<'p>, NoMemory>
-    ensures leads { Computes state.old (number_value_of (call_of call.now)) result state.new }
-    ensures falls { RankAtMost state.old 3 result state.new }
+    ensures refines { Computes state.old (number_value_of (call_of call.now)) result state.new }
+    ensures bounded { RankAtMost state.old 3 result state.new }
 {
     match number_of_receiver(&state.store, &call.this) {
         Some(n) => Ok(Act::Give(Value::Num(n))),

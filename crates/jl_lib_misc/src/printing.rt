@@ -39,8 +39,8 @@ fn append_line(output: &mut List<u8>, line: &[u8]) -> Result<(), NoMemory>
 
 /// A line is printed in UTF-8, where there is room for it.
 fn print_line<'p>(state: &mut State<'p>, units: &[u16]) -> Result<Act<'p>, NoMemory>
-    ensures leads { Computes state.old (print_line units.now) result state.new }
-    ensures falls { RankAtMost state.old 3 result state.new }
+    ensures refines { Computes state.old (print_line units.now) result state.new }
+    ensures bounded { RankAtMost state.old 3 result state.new }
 {
     let alloc = state.alloc();
     let bytes = to_utf8(alloc, units)?;
@@ -77,9 +77,9 @@ fn print_argument<'p>(
     args: List<Value>,
     from: usize,
 ) -> Result<Act<'p>, NoMemory>
-    ensures leads { Computes state.old (Step (to_string v then λ units. print_others (line_with line is_first units)
+    ensures refines { Computes state.old (Step (to_string v then λ units. print_others (line_with line is_first units)
         (drop from args))) result state.new }
-    ensures falls { RankAtMost state.old 1 result state.new }
+    ensures bounded { RankAtMost state.old 1 result state.new }
 {
     if !state.spend() {
         return Ok(Act::Spent);
@@ -100,8 +100,8 @@ fn print_others<'p>(
     args: List<Value>,
     from: usize,
 ) -> Result<Act<'p>, NoMemory>
-    ensures leads { Computes state.old (print_others line (drop from args)) result state.new }
-    ensures falls { RankAtMost state.old 3 result state.new }
+    ensures refines { Computes state.old (print_others line (drop from args)) result state.new }
+    ensures bounded { RankAtMost state.old 3 result state.new }
 {
     let alloc = state.alloc();
     match value_from(alloc, args.items(), from)? {
@@ -112,8 +112,8 @@ fn print_others<'p>(
 
 /// `print(..)` and `console.log(..)`: the arguments as strings, with a space between each two.
 pub(crate) fn print<'p>(state: &mut State<'p>, args: &[Value]) -> Result<Act<'p>, NoMemory>
-    ensures leads { Computes state.old (print_all args.now) result state.new }
-    ensures falls { RankAtMost state.old 3 result state.new }
+    ensures refines { Computes state.old (print_all args.now) result state.new }
+    ensures bounded { RankAtMost state.old 3 result state.new }
 {
     let alloc = state.alloc();
     let line = List::new(alloc);
@@ -133,9 +133,9 @@ pub(crate) fn resume_print<'p>(
     from: usize,
     p: &Value,
 ) -> Result<Act<'p>, NoMemory>
-    ensures leads { Computes state.old (print_others (line_with line is_first (text_of_value p.now)) (drop from
+    ensures refines { Computes state.old (print_others (line_with line is_first (text_of_value p.now)) (drop from
         args)) result state.new }
-    ensures falls { RankAtMost state.old 3 result state.new }
+    ensures bounded { RankAtMost state.old 3 result state.new }
 {
     let alloc = state.alloc();
     let text = text_of(alloc, p)?;

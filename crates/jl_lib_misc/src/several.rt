@@ -7,7 +7,7 @@ ghost use Rattle.jl_progress.specs.Numbers.{number_after, pick_of};
 ghost use Rattle.jl_progress.specs.declared.number.NumberProgress.TheVariants as progress;
 ghost use Rattle.jl_state.specs.Clauses.{Computes, RankAtMost};
 ghost use Rattle.jl_state.specs.Rank.{rank_act};
-ghost use Rattle.jl_state.specs.Rest.{Works};
+ghost use Rattle.jl_state.specs.Rest.{RefinesAlgorithm};
 ghost use Rattle.jl_state.specs.declared.state.State.{State as Machine};
 
 use jl_builtin::{copy_of, value_from, wait_for_number};
@@ -46,7 +46,7 @@ fn next_extreme(extreme: Extreme, so_far: Option<Num>, n: Num) -> Num
 
 /// The number so far is given; without an argument it would be an infinity.
 fn give_extreme<'p>(so_far: Option<Num>) -> Act<'p>
-    ensures leads { (s : Machine) → Works s (give_number so_far) s result }
+    ensures refines { (s : Machine) → RefinesAlgorithm s (give_number so_far) s result }
     ensures low { rank_act result ≤ 2 }
 {
     match so_far {
@@ -64,8 +64,8 @@ fn convert_next<'p>(
     args: List<Value>,
     from: usize,
 ) -> Result<Act<'p>, NoMemory>
-    ensures leads { Computes state.old (one_of_all (pick_of extreme) so_far (v ∷ drop from args)) result state.new }
-    ensures falls { RankAtMost state.old 1 result state.new }
+    ensures refines { Computes state.old (one_of_all (pick_of extreme) so_far (v ∷ drop from args)) result state.new }
+    ensures bounded { RankAtMost state.old 1 result state.new }
 {
     if !state.spend() {
         return Ok(Act::Spent);
@@ -87,8 +87,8 @@ fn one_of_all<'p>(
     args: List<Value>,
     from: usize,
 ) -> Result<Act<'p>, NoMemory>
-    ensures leads { Computes state.old (one_of_all (pick_of extreme) so_far (drop from args)) result state.new }
-    ensures falls { RankAtMost state.old 3 result state.new }
+    ensures refines { Computes state.old (one_of_all (pick_of extreme) so_far (drop from args)) result state.new }
+    ensures bounded { RankAtMost state.old 3 result state.new }
 {
     let alloc = state.alloc();
     match value_from(alloc, args.items(), from)? {
@@ -103,8 +103,8 @@ pub(crate) fn one_of_arguments<'p>(
     extreme: Extreme,
     args: &[Value],
 ) -> Result<Act<'p>, NoMemory>
-    ensures leads { Computes state.old (one_of_all (pick_of extreme) Option.None args.now) result state.new }
-    ensures falls { RankAtMost state.old 3 result state.new }
+    ensures refines { Computes state.old (one_of_all (pick_of extreme) Option.None args.now) result state.new }
+    ensures bounded { RankAtMost state.old 3 result state.new }
 {
     let alloc = state.alloc();
     let args = copy_of(alloc, args)?;
@@ -120,9 +120,9 @@ pub(crate) fn resume_extreme<'p>(
     from: usize,
     p: &Value,
 ) -> Result<Act<'p>, NoMemory>
-    ensures leads { Computes state.old (number_after (progress.Extreme extreme so_far args from) p.now) result
+    ensures refines { Computes state.old (number_after (progress.Extreme extreme so_far args from) p.now) result
         state.new }
-    ensures falls { RankAtMost state.old 3 result state.new }
+    ensures bounded { RankAtMost state.old 3 result state.new }
 {
     match number_of(p) {
         Ok(n) => {

@@ -32,8 +32,8 @@ pub fn start_global<'p>(
     builtin: GlobalBuiltin,
     call: &Invocation,
 ) -> Result<Act<'p>, NoMemory>
-    ensures leads { Computes state.old (global_algorithm builtin (call_of call.now)) result state.new }
-    ensures falls { RankAtMost state.old 46 result state.new }
+    ensures refines { Computes state.old (global_algorithm builtin (call_of call.now)) result state.new }
+    ensures bounded { RankAtMost state.old 46 result state.new }
 {
     match builtin {
         GlobalBuiltin::Print | GlobalBuiltin::ConsoleLog => print(state, call.args.items()),
@@ -49,8 +49,8 @@ pub fn start_number<'p>(
     builtin: NumberBuiltin,
     call: &Invocation,
 ) -> Result<Act<'p>, NoMemory>
-    ensures leads { Computes state.old (number_algorithm builtin (call_of call.now)) result state.new }
-    ensures falls { RankAtMost state.old 22 result state.new }
+    ensures refines { Computes state.old (number_algorithm builtin (call_of call.now)) result state.new }
+    ensures bounded { RankAtMost state.old 22 result state.new }
 {
     match builtin {
         NumberBuiltin::Constructor => number_constructor(state, call),
@@ -69,8 +69,8 @@ pub fn start_boolean<'p>(
     builtin: BooleanBuiltin,
     call: &Invocation,
 ) -> Result<Act<'p>, NoMemory>
-    ensures leads { Computes state.old (boolean_algorithm builtin (call_of call.now)) result state.new }
-    ensures falls { RankAtMost state.old 3 result state.new }
+    ensures refines { Computes state.old (boolean_algorithm builtin (call_of call.now)) result state.new }
+    ensures bounded { RankAtMost state.old 3 result state.new }
 {
     match builtin {
         BooleanBuiltin::Constructor => boolean_constructor(state, call),
@@ -85,8 +85,8 @@ pub fn start_error<'p>(
     builtin: ErrorBuiltin,
     call: &Invocation,
 ) -> Result<Act<'p>, NoMemory>
-    ensures leads { Computes state.old (error_algorithm builtin (call_of call.now)) result state.new }
-    ensures falls { RankAtMost state.old 84 result state.new }
+    ensures refines { Computes state.old (error_algorithm builtin (call_of call.now)) result state.new }
+    ensures bounded { RankAtMost state.old 84 result state.new }
 {
     match builtin {
         ErrorBuiltin::Error => error_constructor(state, ObjId::ERROR_PROTOTYPE, call),
@@ -108,8 +108,8 @@ pub fn start_math<'p>(
     builtin: MathBuiltin,
     call: &Invocation,
 ) -> Result<Act<'p>, NoMemory>
-    ensures leads { Computes state.old (math_algorithm builtin (call_of call.now)) result state.new }
-    ensures falls { RankAtMost state.old 46 result state.new }
+    ensures refines { Computes state.old (math_algorithm builtin (call_of call.now)) result state.new }
+    ensures bounded { RankAtMost state.old 46 result state.new }
 {
     match builtin {
         MathBuiltin::Abs => on_argument(state, NumberFunction::Absolute, call),
@@ -128,8 +128,8 @@ pub fn resume_number<'p>(
     progress: NumberProgress,
     v: Value,
 ) -> Result<Act<'p>, NoMemory>
-    ensures leads { Computes state.old (number_after progress v) result state.new }
-    ensures falls { RankAtMost state.old (rank_number progress + 2) result state.new }
+    ensures refines { Computes state.old (number_after progress v) result state.new }
+    ensures bounded { RankAtMost state.old (rank_number progress + 2) result state.new }
 {
     match progress {
         NumberProgress::Given { by_new } => resume_given(state, by_new, &v),

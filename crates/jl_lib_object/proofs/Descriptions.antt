@@ -21,9 +21,9 @@ use Rattle.jl_progress.specs.Objects.{own_test_of}
 use Rattle.jl_progress.specs.declared.object.ObjectProgress.TheVariants as object
 use Rattle.jl_progress.specs.declared.object.OwnTest.{OwnTest}
 use Rattle.jl_progress.specs.declared.progress.Progress.TheVariants as progress
-use Rattle.jl_store.specs.Comes.{Comes}
+use Rattle.jl_store.specs.BigStep.{BigStep}
 use Rattle.jl_store.specs.LookUps.{data_value, getter_of, setter_of}
-use Rattle.jl_state.specs.Rest.{Works}
+use Rattle.jl_state.specs.Rest.{RefinesAlgorithm}
 use Rattle.jl_state.specs.Steps.{AlgorithmWaits}
 use Rattle.jl_state.specs.declared.act.Act.{Act}
 use Rattle.jl_state.specs.declared.act.Act.TheVariants as act
@@ -64,18 +64,19 @@ accessor_is (Accessor get set y z) found getter setter enumerable configurable i
 
 pub describes_none : (s : State) (id : ObjId) (x : Name) (found : Option Prop)
     → found ≡ get_own_property s.store id.0 x → found ≡ None
-    → Works s (describe_own id x) s (act.Give value.Undefined)
+    → RefinesAlgorithm s (describe_own id x) s (act.Give value.Undefined)
 describes_none s id x found is none = record {
-  is = (subst (λ o. Works s (from_property_descriptor o) s (act.Give value.Undefined)) (sym none ∙ is)
+  is = (subst (λ o. RefinesAlgorithm s (from_property_descriptor o) s (act.Give value.Undefined)) (sym none ∙ is)
       (record { is = λ kept told. refl })).is;
 }
 
 pub describes : (s : State) (t : Store) (id : ObjId) (x : Name) (found : Option Prop) (p : Prop) (v : Value)
     → found ≡ get_own_property s.store id.0 x → found ≡ Some p
-    → Comes (from_property_descriptor (Some p)) s.store t (Ends (gives v))
-    → Works s (describe_own id x) (record s { store = t }) (act.Give v)
+    → BigStep (from_property_descriptor (Some p)) s.store t (Ends (gives v))
+    → RefinesAlgorithm s (describe_own id x) (record s { store = t }) (act.Give v)
 describes s t id x found p v is there comes = record {
-  is = (subst (λ o. Works s (from_property_descriptor o) (record s { store = t }) (act.Give v)) (sym there ∙ is)
+  is = (subst (λ o. RefinesAlgorithm s (from_property_descriptor o) (record s { store = t }) (act.Give v))
+      (sym there ∙ is)
       (works_ends s (record s { store = t }) refl (from_property_descriptor (Some p)) (gives v) comes)).is;
 }
 
@@ -83,20 +84,20 @@ describes s t id x found p v is there comes = record {
 pub asks_name : (s u : State) (test : OwnTest) (c : Call) (name this : Value) (t : State) (a : Act)
     → name ≡ argument c 0 → this ≡ c.this
     → AlgorithmWaits s (algorithm.Builtin (progress.Object (object.OwnName test this))) u
-    → Works u (to_primitive string_hint name) t a → Works s (this_has (own_test_of test) c) t a
-asks_name s u test c name this t a name_is this_is waits leads =
-    subst (λ v. Works s (to_string v >>= asked c.this) t a) name_is
-    (subst (λ w. Works s (to_string name >>= asked w) t a) this_is
+    → RefinesAlgorithm u (to_primitive string_hint name) t a → RefinesAlgorithm s (this_has (own_test_of test) c) t a
+asks_name s u test c name this t a name_is this_is waits refines =
+    subst (λ v. RefinesAlgorithm s (to_string v >>= asked c.this) t a) name_is
+    (subst (λ w. RefinesAlgorithm s (to_string name >>= asked w) t a) this_is
     (text_waits s u t (algorithm.Builtin (progress.Object (object.OwnName test this))) (asked this) name a (λ p. refl)
-    waits leads))
+    waits refines))
   where
     asked : Value → Name → Algorithm Value
     asked w x = to_object w >>= λ id. look >>= λ store. give_truth (own_test_of test store id.0 x)
 
 pub own_told : (s : State) (test : OwnTest) (id : ObjId) (name x : Name) (b : Bool)
     → b ≡ own_test_of test s.store id.0 name → name ≡ x
-    → Works s (look >>= λ store. give_truth (own_test_of test store id.0 x)) s (act.Give (value.Bool b))
+    → RefinesAlgorithm s (look >>= λ store. give_truth (own_test_of test store id.0 x)) s (act.Give (value.Bool b))
 own_told s test id name x b told same = record {
-  is = (subst (λ c. Works s (give_truth (own_test_of test s.store id.0 x)) s (act.Give (value.Bool c)))
+  is = (subst (λ c. RefinesAlgorithm s (give_truth (own_test_of test s.store id.0 x)) s (act.Give (value.Bool c)))
       (sym (told ∙ ap (λ y. own_test_of test s.store id.0 y) same)) (record { is = λ kept before. refl })).is;
 }

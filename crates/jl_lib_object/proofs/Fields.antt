@@ -31,11 +31,11 @@ use Rattle.jl_progress.specs.declared.object.DescriptorField.TheVariants as fiel
 use Rattle.jl_progress.specs.declared.object.DescriptorUse.{DescriptorUse}
 use Rattle.jl_progress.specs.declared.object.ObjectProgress.TheVariants as object
 use Rattle.jl_store.specs.Answers.{ends_with}
-use Rattle.jl_store.specs.Comes.{Comes}
+use Rattle.jl_store.specs.BigStep.{BigStep}
 use Rattle.jl_store.specs.declared.answer.Answer.{Answer}
 use Rattle.jl_store.specs.declared.answer.Answer.TheVariants.{Gives, Throws}
 use Rattle.jl_store.proofs.Steps.{comes_to}
-use Rattle.jl_state.specs.Rest.{Works}
+use Rattle.jl_state.specs.Rest.{RefinesAlgorithm}
 use Rattle.jl_state.specs.declared.act.Act.{Act}
 use Rattle.jl_state.specs.declared.act.Act.TheVariants as act
 use Rattle.jl_state.specs.declared.state.State.{State}
@@ -49,17 +49,17 @@ use Rattle.jl_lib_object.proofs.Ends.{goes_on, throws_on}
 
 module _ (s : State) (d : ObjId) (x : Name) (r : Option Value → Algorithm Value) (t : State) (a : Act) (has : Bool)
     (is : has ≡ has_property s.store d.0 x) where
-  skips_field : has ≡ false → Works s (r None) t a → Works s (field d x >>= r) t a
-  skips_field none leads =
-      record { is = (subst (λ b. Works s (get_if b d x >>= r) t a) (sym none ∙ is) leads).is }
+  skips_field : has ≡ false → RefinesAlgorithm s (r None) t a → RefinesAlgorithm s (field d x >>= r) t a
+  skips_field none refines =
+      record { is = (subst (λ b. RefinesAlgorithm s (get_if b d x >>= r) t a) (sym none ∙ is) refines).is }
 
   gets_field : (k : Value → Algorithm Value) → ((v : Value) → k v ≡ r (Some v)) → has ≡ true
-      → Works s (get (value.Obj d) x >>= k) t a → Works s (field d x >>= r) t a
-  gets_field k same there leads = record {
-    is = (subst (λ b. Works s (get_if b d x >>= r) t a) (sym there ∙ is)
-        (subst (λ q. Works s q t a)
+      → RefinesAlgorithm s (get (value.Obj d) x >>= k) t a → RefinesAlgorithm s (field d x >>= r) t a
+  gets_field k same there refines = record {
+    is = (subst (λ b. RefinesAlgorithm s (get_if b d x >>= r) t a) (sym there ∙ is)
+        (subst (λ q. RefinesAlgorithm s q t a)
         (ap (λ (g : Value → Algorithm Value). get (value.Obj d) x >>= g) (fun_ext same)
-        ∙ sym (bind_assoc (get (value.Obj d) x) (λ v. give (Some v)) r)) leads)).is;
+        ∙ sym (bind_assoc (get (value.Obj d) x) (λ v. give (Some v)) r)) refines)).is;
   }
 
 -- the continuations of fields
@@ -184,36 +184,38 @@ module _ (d : ObjId) (change : Change) (purpose : DescriptorUse) where
   -- a field that is there is got
   pub field_there : (s : State) (which : DescriptorField) (next : Option DescriptorField) (has : Bool) (t : State)
       (a : Act) → next ≡ Some which → has ≡ has_property s.store d.0 (field_name which) → has ≡ true
-      → Works s (get (value.Obj d) (field_name which) >>= object_after (object.Field which d change purpose)) t a
-      → Works s (later next change) t a
-  field_there s which next has t a here is there leads =
-      subst (λ n. Works s (later n change) t a) (sym here)
-      (subst (λ p. Works s p t a) (fields_are which)
+      → RefinesAlgorithm s (get (value.Obj d) (field_name which) >>= object_after
+      (object.Field which d change purpose)) t a
+      → RefinesAlgorithm s (later next change) t a
+  field_there s which next has t a here is there refines =
+      subst (λ n. RefinesAlgorithm s (later n change) t a) (sym here)
+      (subst (λ p. RefinesAlgorithm s p t a) (fields_are which)
       (gets_field s d (field_name which) (given_field which) t a has is
-      (object_after (object.Field which d change purpose)) (after_is which) there leads))
+      (object_after (object.Field which d change purpose)) (after_is which) there refines))
 
   -- and one that isn't is passed over
   pub field_absent : (s : State) (which : DescriptorField) (next following : Option DescriptorField) (has : Bool)
       (less : Change) (t : State) (a : Act) → next ≡ Some which
       → has ≡ has_property s.store d.0 (field_name which) → has ≡ false → less ≡ without_field which change
-      → following ≡ next_field which → Works s (later following less) t a → Works s (later next change) t a
-  field_absent s which next following has less t a here is absent less_is following_is leads =
-      subst (λ n. Works s (later n change) t a) (sym here)
-      (subst (λ p. Works s p t a) (fields_are which)
+      → following ≡ next_field which → RefinesAlgorithm s (later following less) t a
+      → RefinesAlgorithm s (later next change) t a
+  field_absent s which next following has less t a here is absent less_is following_is refines =
+      subst (λ n. RefinesAlgorithm s (later n change) t a) (sym here)
+      (subst (λ p. RefinesAlgorithm s p t a) (fields_are which)
       (skips_field s d (field_name which) (given_field which) t a has is absent
-      (subst (λ n. Works s (later n (without_field which change)) t a) following_is
-      (subst (λ c. Works s (later following c) t a) less_is leads))))
+      (subst (λ n. RefinesAlgorithm s (later n (without_field which change)) t a) following_is
+      (subst (λ c. RefinesAlgorithm s (later following c) t a) less_is refines))))
 
   -- what follows a field that was got
   pub field_got : (s : State) (which : DescriptorField) (v : Value) (t : State) (a : Act)
-      → Works s (with_field which v change >>= later (next_field which)) t a
-      → Works s (object_after (object.Field which d change purpose) v) t a
-  field_got s which v t a leads = subst (λ p. Works s p t a) (sym (after_is which v)) leads
+      → RefinesAlgorithm s (with_field which v change >>= later (next_field which)) t a
+      → RefinesAlgorithm s (object_after (object.Field which d change purpose) v) t a
+  field_got s which v t a refines = subst (λ p. RefinesAlgorithm s p t a) (sym (after_is which v)) refines
 
 -- the first field, of a value that is an object
 
 module _ (s : State) (x : Store) (v : Value) (purpose : DescriptorUse) (answer : Answer ObjId)
-    (comes : Comes (need_object v) s.store x (ends_with answer)) where
+    (comes : BigStep (need_object v) s.store x (ends_with answer)) where
   abbrev from_first : ObjId → Algorithm Value
   from_first d = change_from (Some field_of.Enumerable) d no_change >>= after_descriptor purpose
 
@@ -222,32 +224,33 @@ module _ (s : State) (x : Store) (v : Value) (purpose : DescriptorUse) (answer :
       sym (bind_assoc (need_object v) (λ d. change_from_enumerable d no_change) (after_descriptor purpose))
 
   pub first_read : (d : ObjId) (none : Change) (t : State) (a : Act) → answer ≡ Gives d → none ≡ no_change
-      → Works (record s { store = x }) (later d none purpose (Some field_of.Enumerable) none) t a
-      → Works s (to_property_descriptor v >>= after_descriptor purpose) t a
-  first_read d none t a is none_is leads =
-      subst (λ p. Works s p t a) from_first_is
+      → RefinesAlgorithm (record s { store = x }) (later d none purpose (Some field_of.Enumerable) none) t a
+      → RefinesAlgorithm s (to_property_descriptor v >>= after_descriptor purpose) t a
+  first_read d none t a is none_is refines =
+      subst (λ p. RefinesAlgorithm s p t a) from_first_is
       (goes_on s x (need_object v) from_first answer comes d t a is
-      (subst (λ c. Works (record s { store = x }) (later d c purpose (Some field_of.Enumerable) c) t a) none_is leads))
+      (subst (λ c. RefinesAlgorithm (record s { store = x })
+      (later d c purpose (Some field_of.Enumerable) c) t a) none_is refines))
 
   pub first_thrown : (w : Value) → answer ≡ Throws w
-      → Works s (to_property_descriptor v >>= after_descriptor purpose) (record s { store = x })
+      → RefinesAlgorithm s (to_property_descriptor v >>= after_descriptor purpose) (record s { store = x })
       (act.Complete (completion.Throw w))
   first_thrown w is =
-      subst (λ p. Works s p (record s { store = x }) (act.Complete (completion.Throw w))) from_first_is
+      subst (λ p. RefinesAlgorithm s p (record s { store = x }) (act.Complete (completion.Throw w))) from_first_is
       (throws_on s x (need_object v) from_first answer comes w is)
 
 -- the field after one
 pub next_read : (s : State) (which : DescriptorField) (next : Option DescriptorField) (d : ObjId) (change : Change)
     (purpose : DescriptorUse) (t : State) (a : Act) → next ≡ next_field which
-    → Works s (change_from next d change >>= after_descriptor purpose) t a
-    → Works s (change_from (next_field which) d change >>= after_descriptor purpose) t a
-next_read s which next d change purpose t a is leads =
-    subst (λ n. Works s (change_from n d change >>= after_descriptor purpose) t a) is leads
+    → RefinesAlgorithm s (change_from next d change >>= after_descriptor purpose) t a
+    → RefinesAlgorithm s (change_from (next_field which) d change >>= after_descriptor purpose) t a
+next_read s which next d change purpose t a is refines =
+    subst (λ n. RefinesAlgorithm s (change_from n d change >>= after_descriptor purpose) t a) is refines
 
 -- a value that may be undefined
 
 pub undefined_read : (s : Store) (v : Value) → is_undefined v ≡ true
-    → Comes (function_or_undefined v) s s (Ends (gives None))
+    → BigStep (function_or_undefined v) s s (Ends (gives None))
 undefined_read s value.Undefined is = comes_to
 undefined_read s value.Null is = absurd (let differ = is in cc)
 undefined_read s (value.Bool b) is = absurd (let differ = is in cc)
@@ -256,8 +259,8 @@ undefined_read s (value.Text x) is = absurd (let differ = is in cc)
 undefined_read s (value.Obj id) is = absurd (let differ = is in cc)
 
 pub function_read : (s t : Store) (v : Value) (e : Finish AlgorithmFault (parts.Answer (Option ObjId)))
-    → is_undefined v ≡ false → Comes (need_function v >>= λ f. give (Some f)) s t e
-    → Comes (function_or_undefined v) s t e
+    → is_undefined v ≡ false → BigStep (need_function v >>= λ f. give (Some f)) s t e
+    → BigStep (function_or_undefined v) s t e
 function_read s t value.Undefined e is comes = absurd (let differ = is in cc)
 function_read s t value.Null e is comes = comes
 function_read s t (value.Bool b) e is comes = comes
@@ -269,53 +272,53 @@ function_read s t (value.Obj id) e is comes = comes
 
 module _ (s : Store) (which : DescriptorField) (v : Value) (change : Change) (b : Bool) where
   pub enumerable_given : which ≡ field_of.Enumerable → b ≡ truth_of v
-      → Comes (with_field which v change) s s (Ends (gives (record change { enumerable = Some b })))
+      → BigStep (with_field which v change) s s (Ends (gives (record change { enumerable = Some b })))
   enumerable_given is told =
-      subst (λ w. Comes (with_field w v change) s s (Ends (gives (record change { enumerable = Some b })))) (sym is)
-      (subst (λ c. Comes (with_field field_of.Enumerable v change) s s
+      subst (λ w. BigStep (with_field w v change) s s (Ends (gives (record change { enumerable = Some b })))) (sym is)
+      (subst (λ c. BigStep (with_field field_of.Enumerable v change) s s
       (Ends (gives (record change { enumerable = Some c })))) (sym told) comes_to)
 
   pub configurable_given : which ≡ field_of.Configurable → b ≡ truth_of v
-      → Comes (with_field which v change) s s (Ends (gives (record change { configurable = Some b })))
+      → BigStep (with_field which v change) s s (Ends (gives (record change { configurable = Some b })))
   configurable_given is told =
-      subst (λ w. Comes (with_field w v change) s s (Ends (gives (record change { configurable = Some b })))) (sym is)
-      (subst (λ c. Comes (with_field field_of.Configurable v change) s s
+      subst (λ w. BigStep (with_field w v change) s s (Ends (gives (record change { configurable = Some b })))) (sym is)
+      (subst (λ c. BigStep (with_field field_of.Configurable v change) s s
       (Ends (gives (record change { configurable = Some c })))) (sym told) comes_to)
 
   pub writable_given : which ≡ field_of.Writable → b ≡ truth_of v
-      → Comes (with_field which v change) s s (Ends (gives (record change { writable = Some b })))
+      → BigStep (with_field which v change) s s (Ends (gives (record change { writable = Some b })))
   writable_given is told =
-      subst (λ w. Comes (with_field w v change) s s (Ends (gives (record change { writable = Some b })))) (sym is)
-      (subst (λ c. Comes (with_field field_of.Writable v change) s s
+      subst (λ w. BigStep (with_field w v change) s s (Ends (gives (record change { writable = Some b })))) (sym is)
+      (subst (λ c. BigStep (with_field field_of.Writable v change) s s
       (Ends (gives (record change { writable = Some c })))) (sym told) comes_to)
 
 pub value_got : (s : Store) (which : DescriptorField) (v : Value) (change : Change) → which ≡ field_of.Value
-    → Comes (with_field which v change) s s (Ends (gives (record change { value = Some v })))
+    → BigStep (with_field which v change) s s (Ends (gives (record change { value = Some v })))
 value_got s which v change is =
-    subst (λ w. Comes (with_field w v change) s s (Ends (gives (record change { value = Some v })))) (sym is) comes_to
+    subst (λ w. BigStep (with_field w v change) s s (Ends (gives (record change { value = Some v })))) (sym is) comes_to
 
 -- no field is left
 pub none_left : (s : State) (next : Option DescriptorField) (d : ObjId) (change : Change) (purpose : DescriptorUse)
-    (t : State) (a : Act) → next ≡ None → Works s (of_one_kind change >>= after_descriptor purpose) t a
-    → Works s (change_from next d change >>= after_descriptor purpose) t a
-none_left s next d change purpose t a none leads =
-    subst (λ n. Works s (change_from n d change >>= after_descriptor purpose) t a) (sym none) leads
+    (t : State) (a : Act) → next ≡ None → RefinesAlgorithm s (of_one_kind change >>= after_descriptor purpose) t a
+    → RefinesAlgorithm s (change_from next d change >>= after_descriptor purpose) t a
+none_left s next d change purpose t a none refines =
+    subst (λ n. RefinesAlgorithm s (change_from n d change >>= after_descriptor purpose) t a) (sym none) refines
 
 -- a change of one kind, and one that is not
 pub one_kind : (s : State) (change : Change) (purpose : DescriptorUse) (t : State) (a : Act)
-    → (is_data change && is_accessor change) ≡ false → Works s (after_descriptor purpose change) t a
-    → Works s (of_one_kind change >>= after_descriptor purpose) t a
-one_kind s change purpose t a is leads =
-    subst (λ b. Works s ((if b then throw_type_error (codes "bad descriptor") else give change)
-    >>= after_descriptor purpose) t a) (sym is) leads
+    → (is_data change && is_accessor change) ≡ false → RefinesAlgorithm s (after_descriptor purpose change) t a
+    → RefinesAlgorithm s (of_one_kind change >>= after_descriptor purpose) t a
+one_kind s change purpose t a is refines =
+    subst (λ b. RefinesAlgorithm s ((if b then throw_type_error (codes "bad descriptor") else give change)
+    >>= after_descriptor purpose) t a) (sym is) refines
 
 pub two_kinds : (s : State) (change : Change) (purpose : DescriptorUse) (t : State) (a : Act)
-    → (is_data change && is_accessor change) ≡ true → Works s (throw_type_error (codes "bad descriptor")) t a
-    → Works s (of_one_kind change >>= after_descriptor purpose) t a
-two_kinds s change purpose t a is leads =
-    subst (λ b. Works s ((if b then throw_type_error (codes "bad descriptor") else give change)
+    → (is_data change && is_accessor change) ≡ true → RefinesAlgorithm s (throw_type_error (codes "bad descriptor")) t a
+    → RefinesAlgorithm s (of_one_kind change >>= after_descriptor purpose) t a
+two_kinds s change purpose t a is refines =
+    subst (λ b. RefinesAlgorithm s ((if b then throw_type_error (codes "bad descriptor") else give change)
     >>= after_descriptor purpose) t a) (sym is)
-    (works_left_out s TypeError (codes "bad descriptor") (after_descriptor purpose) t a leads)
+    (works_left_out s TypeError (codes "bad descriptor") (after_descriptor purpose) t a refines)
 
 pub one_kind_is : (change : Change) → (is_data change && is_accessor change) ≡ false → IsOneKind change
 one_kind_is change is = ap not is

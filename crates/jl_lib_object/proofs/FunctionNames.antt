@@ -18,7 +18,7 @@ use Rattle.jl_meaning.specs.builtins.Function.{function_to_string, inner_of_func
 use Rattle.jl_meaning.specs.builtins.Function.{FunctionNames}
 use Rattle.jl_store.specs.Plain.{plain_function}
 use Rattle.jl_store.proofs.Trees.{name_is}
-use Rattle.jl_state.specs.Rest.{Works}
+use Rattle.jl_state.specs.Rest.{RefinesAlgorithm}
 use Rattle.jl_state.specs.Words.{function_of, table_of}
 use Rattle.jl_state.specs.declared.act.Act.{Act}
 use Rattle.jl_state.specs.declared.script_function.ScriptFunction.{ScriptFunction}
@@ -52,28 +52,30 @@ text_of names i = string_within (function_text (name_inside names i)) >>= give_s
 -- a value that is no function
 pub no_receiver : (s : State) (names : FunctionNames) (c : Call) (name : Option Name) (t : State) (a : Act)
     → name ≡ option_map (name_inside names) (inner_of_function s.store.heap c.this) → name ≡ None
-    → Works s (throw_error TypeError (codes "wrong receiver")) t a → Works s (function_to_string names c) t a
-no_receiver s names c name t a is none leads = record {
+    → RefinesAlgorithm s (throw_error TypeError (codes "wrong receiver")) t a
+    → RefinesAlgorithm s (function_to_string names c) t a
+no_receiver s names c name t a is none refines = record {
   is = (by (inner_of_function s.store.heap c.this) (sym is ∙ none)).is;
 }
   where
-    by : (o : Option Inner) → option_map (name_inside names) o ≡ None → Works s (need_receiver o >>= text_of names) t a
-    by None e = works_left_out s TypeError (codes "wrong receiver") (text_of names) t a leads
+    by : (o : Option Inner) → option_map (name_inside names) o ≡ None
+        → RefinesAlgorithm s (need_receiver o >>= text_of names) t a
+    by None e = works_left_out s TypeError (codes "wrong receiver") (text_of names) t a refines
     by (Some i) e = absurd (let differ = e in cc)
 
 -- or one
 pub receiver : (s : State) (names : FunctionNames) (c : Call) (name : Option Name) (x : Name) (text : List ℕ)
     (t : State) (a : Act) → name ≡ option_map (name_inside names) (inner_of_function s.store.heap c.this)
-    → name ≡ Some x → text ≡ function_text x → Works s (string_within text >>= give_string) t a
-    → Works s (function_to_string names c) t a
-receiver s names c name x text t a is there text_is leads = record {
+    → name ≡ Some x → text ≡ function_text x → RefinesAlgorithm s (string_within text >>= give_string) t a
+    → RefinesAlgorithm s (function_to_string names c) t a
+receiver s names c name x text t a is there text_is refines = record {
   is = (by (inner_of_function s.store.heap c.this) (sym is ∙ there)).is;
 }
   where
     by : (o : Option Inner) → option_map (name_inside names) o ≡ Some x
-        → Works s (need_receiver o >>= text_of names) t a
+        → RefinesAlgorithm s (need_receiver o >>= text_of names) t a
     by None e = absurd (let differ = e in cc)
     by (Some i) e =
         let same : x ≡ name_inside names i = cc in
-        subst (λ y. Works s (string_within (function_text y) >>= give_string) t a) same
-        (subst (λ u. Works s (string_within u >>= give_string) t a) text_is leads)
+        subst (λ y. RefinesAlgorithm s (string_within (function_text y) >>= give_string) t a) same
+        (subst (λ u. RefinesAlgorithm s (string_within u >>= give_string) t a) text_is refines)

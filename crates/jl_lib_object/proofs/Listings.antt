@@ -20,8 +20,8 @@ use Rattle.jl_meaning.specs.builtins.Descriptors.{own_names}
 use Rattle.jl_meaning.specs.builtins.Elements.{add_in_turns}
 use Rattle.jl_meaning.specs.builtins.Object.{array_of_names}
 use Rattle.jl_meaning.specs.forms.Literals.{index_name, new_array}
-use Rattle.jl_store.specs.Comes.{Comes}
-use Rattle.jl_state.specs.Rest.{Works}
+use Rattle.jl_store.specs.BigStep.{BigStep}
+use Rattle.jl_state.specs.Rest.{RefinesAlgorithm}
 use Rattle.jl_state.specs.declared.act.Act.{Act}
 use Rattle.jl_state.specs.declared.state.State.{State}
 use Rattle.jl_state.proofs.Stores.{works_comes}
@@ -69,14 +69,14 @@ own_names_are store place count units names stored units_are counted found is =
 
 -- an array of names is filled
 pub fills_names : (s : State) (x : Store) (array : ObjId) (names : List Name) (values : List Value) (t : State)
-    (a : Act) → values ≡ map text_value names → Comes new_array s.store x (Ends (gives array))
-    → Works (record s { store = x }) (add_in_turns array 0 (drop 0 values) >>= λ _. give_object array) t a
-    → Works s (array_of_names names) t a
-fills_names s x array names values t a is comes leads =
-    subst (λ l. Works s (new_array >>= λ id. add_in_turns id 0 l >>= λ _. give_object id) t a) is
+    (a : Act) → values ≡ map text_value names → BigStep new_array s.store x (Ends (gives array))
+    → RefinesAlgorithm (record s { store = x }) (add_in_turns array 0 (drop 0 values) >>= λ _. give_object array) t a
+    → RefinesAlgorithm s (array_of_names names) t a
+fills_names s x array names values t a is comes refines =
+    subst (λ l. RefinesAlgorithm s (new_array >>= λ id. add_in_turns id 0 l >>= λ _. give_object id) t a) is
     (works_comes s (record s { store = x }) refl new_array array
     (λ id. add_in_turns id 0 values >>= λ _. give_object id)
-    t a comes leads)
+    t a comes refines)
 
 -- lists that grow by one
 

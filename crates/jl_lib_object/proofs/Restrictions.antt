@@ -27,10 +27,10 @@ use Rattle.jl_progress.specs.declared.object.Integrity.TheVariants as integrity
 use Rattle.jl_store.specs.Changes.{after}
 use Rattle.jl_store.proofs.Steps.{comes_by}
 use Rattle.jl_state.specs.AlgorithmFrames.{after_define}
-use Rattle.jl_state.specs.Rest.{Works}
+use Rattle.jl_state.specs.Rest.{RefinesAlgorithm}
 use Rattle.jl_state.specs.declared.act.Act.{Act}
 use Rattle.jl_state.specs.declared.act.Act.TheVariants as act
-use Rattle.jl_state.specs.declared.algorithm_frame.WrittenBy.TheVariants.{Builtin}
+use Rattle.jl_state.specs.declared.algorithm_frame.AfterDefine.TheVariants.{Builtin}
 use Rattle.jl_state.specs.declared.state.State.{State}
 use Rattle.jl_state.proofs.Stores.{works_comes}
 use Rattle.jl_meaning.proofs.Binds.{bind_assoc}
@@ -81,28 +81,32 @@ frozen_told level p writable configurable fixed is told w c =
 pub redefines : (s : State) (level : Integrity) (id : ObjId) (x : Name) (found : Option Prop) (p : Prop)
     (q : Prop) (change : Change) (t : State) (a : Act) → found ≡ get_own_property s.store id.0 x → found ≡ Some p
     → q ≡ restricted_property level p → change ≡ change_of q
-    → Works s (define_own_property id x change >>= after_define (Builtin value.Undefined)) t a
-    → Works s (redefine (restricted_property level) id x >>= λ _. give value.Undefined) t a
-redefines s level id x found p q change t a is there q_is change_is leads = record {
-  is = (subst (λ o. Works s (redefine_if (restricted_property level) id x o >>= λ _. give value.Undefined) t a)
+    → RefinesAlgorithm s (define_own_property id x change >>= after_define (Builtin value.Undefined)) t a
+    → RefinesAlgorithm s (redefine (restricted_property level) id x >>= λ _. give value.Undefined) t a
+redefines s level id x found p q change t a is there q_is change_is refines = record {
+  is = (subst (λ o. RefinesAlgorithm s (redefine_if (restricted_property level) id x o >>=
+      λ _. give value.Undefined) t a)
       (sym there ∙ is)
-      (subst (λ r. Works s (redefine_if (λ _. r) id x (Some p) >>= λ _. give value.Undefined) t a) q_is
+      (subst (λ r. RefinesAlgorithm s (redefine_if (λ _. r) id x (Some p) >>= λ _. give value.Undefined) t a) q_is
       (defines s id x (change_of q) value.Undefined t a
-      (subst (λ c. Works s (define_own_property id x c >>= after_define (Builtin value.Undefined)) t a) change_is
-      leads)))).is;
+      (subst (λ c. RefinesAlgorithm s (define_own_property id x c >>= after_define
+      (Builtin value.Undefined)) t a) change_is
+      refines)))).is;
 }
 
 pub redefines_none : (s : State) (level : Integrity) (id : ObjId) (x : Name) (found : Option Prop)
     → found ≡ get_own_property s.store id.0 x → found ≡ None
-    → Works s (redefine (restricted_property level) id x >>= λ _. give value.Undefined) s (act.Give value.Undefined)
+    → RefinesAlgorithm s (redefine (restricted_property level) id x >>= λ _. give value.Undefined) s
+    (act.Give value.Undefined)
 redefines_none s level id x found is gone = record {
-  is = (subst (λ o. Works s (redefine_if (restricted_property level) id x o >>= λ _. give value.Undefined) s
+  is = (subst (λ o. RefinesAlgorithm s (redefine_if (restricted_property level) id x o >>= λ _. give value.Undefined) s
       (act.Give value.Undefined)) (sym gone ∙ is) (record { is = λ kept told. refl })).is;
 }
 
 -- no more properties may be added
 pub forbids : (s : State) (x : Store) (id : ObjId) → x ≡ after (PreventExtensions id) s.store
-    → Works s (forbid_extensions id >>= λ _. give_object id) (record s { store = x }) (act.Give (value.Obj id))
+    → RefinesAlgorithm s (forbid_extensions id >>= λ _. give_object id) (record s { store = x })
+    (act.Give (value.Obj id))
 forbids s x id is =
     works_comes s (record s { store = x }) refl (forbid_extensions id) tt (λ _. give_object id)
     (record s { store = x }) (act.Give (value.Obj id)) (comes_by (PreventExtensions id) is)
@@ -110,45 +114,47 @@ forbids s x id is =
 
 pub restricted_all : (s : State) (x : Store) (level : Integrity) (id : ObjId) (names : List Name) → names ≡ []
     → x ≡ after (PreventExtensions id) s.store
-    → Works s (restrict_and_give level id names) (record s { store = x }) (act.Give (value.Obj id))
+    → RefinesAlgorithm s (restrict_and_give level id names) (record s { store = x }) (act.Give (value.Obj id))
 restricted_all s x level id names none is =
-    subst (λ l. Works s (restrict_and_give level id l) (record s { store = x }) (act.Give (value.Obj id))) (sym none)
+    subst (λ l. RefinesAlgorithm s (restrict_and_give level id l) (record s { store = x }) (act.Give (value.Obj id)))
+    (sym none)
     (forbids s x id is)
 
 pub restricts_next : (s : State) (level : Integrity) (id : ObjId) (left : List Name) (x : Name) (rest : List Name)
     (t : State) (a : Act) → left ≡ x ∷ rest
-    → Works s (Step (redefine (restricted_property level) id x >>= λ _. restrict_and_give level id rest)) t a
-    → Works s (restrict_and_give level id left) t a
-restricts_next s level id left x rest t a is leads =
-    subst (λ l. Works s (restrict_and_give level id l) t a) (sym is)
-    (subst (λ (p : Algorithm Value). Works s (Step p) t a)
+    → RefinesAlgorithm s (Step (redefine (restricted_property level) id x >>= λ _. restrict_and_give level id rest)) t a
+    → RefinesAlgorithm s (restrict_and_give level id left) t a
+restricts_next s level id left x rest t a is refines =
+    subst (λ l. RefinesAlgorithm s (restrict_and_give level id l) t a) (sym is)
+    (subst (λ (p : Algorithm Value). RefinesAlgorithm s (Step p) t a)
     (sym (bind_assoc (redefine (restricted_property level) id x)
     (λ _. each (redefine (restricted_property level) id) rest)
-    (λ _. forbid_extensions id >>= λ _. give_object id))) leads)
+    (λ _. forbid_extensions id >>= λ _. give_object id))) refines)
 
 -- properties are tested
 
 pub tested_all : (s : State) (level : Integrity) (id : ObjId) (holds : Bool) (names : List Name) (b : Bool)
     → names ≡ [] → b ≡ (holds && not (object_at s.store.heap id.0).extensible)
-    → Works s (test_and_give level id holds names) s (act.Give (value.Bool b))
+    → RefinesAlgorithm s (test_and_give level id holds names) s (act.Give (value.Bool b))
 tested_all s level id holds names b none is =
-    subst (λ l. Works s (test_and_give level id holds l) s (act.Give (value.Bool b))) (sym none)
-    (subst (λ c. Works s (test_and_give level id holds []) s (act.Give (value.Bool c))) (sym is)
+    subst (λ l. RefinesAlgorithm s (test_and_give level id holds l) s (act.Give (value.Bool b))) (sym none)
+    (subst (λ c. RefinesAlgorithm s (test_and_give level id holds []) s (act.Give (value.Bool c))) (sym is)
     (record { is = λ kept told. refl }))
 
 pub tests_next : (s : State) (level : Integrity) (id : ObjId) (holds : Bool) (left : List Name) (x : Name)
-    (rest : List Name) (t : State) (a : Act) → left ≡ x ∷ rest → Works s (Step (test_one level id holds x rest)) t a
-    → Works s (test_and_give level id holds left) t a
-tests_next s level id holds left x rest t a is leads =
-    subst (λ l. Works s (test_and_give level id holds l) t a) (sym is) leads
+    (rest : List Name) (t : State) (a : Act) → left ≡ x ∷ rest
+    → RefinesAlgorithm s (Step (test_one level id holds x rest)) t a
+    → RefinesAlgorithm s (test_and_give level id holds left) t a
+tests_next s level id holds left x rest t a is refines =
+    subst (λ l. RefinesAlgorithm s (test_and_give level id holds l) t a) (sym is) refines
 
 -- a turn that tests a property
 pub tests_one : (s : State) (level : Integrity) (id : ObjId) (holds kept both : Bool) (x : Name) (names : List Name)
     (t : State) (a : Act)
     → kept ≡ option_map_or (is_restricted_property level) (get_own_property s.store id.0 x) true
-    → both ≡ (holds && kept) → Works s (test_and_give level id both names) t a
-    → Works s (test_one level id holds x names) t a
-tests_one s level id holds kept both x names t a kept_is both_is leads = record {
-  is = (subst (λ k. Works s (test_and_give level id (holds && k) names) t a) kept_is
-      (subst (λ b. Works s (test_and_give level id b names) t a) both_is leads)).is;
+    → both ≡ (holds && kept) → RefinesAlgorithm s (test_and_give level id both names) t a
+    → RefinesAlgorithm s (test_one level id holds x names) t a
+tests_one s level id holds kept both x names t a kept_is both_is refines = record {
+  is = (subst (λ k. RefinesAlgorithm s (test_and_give level id (holds && k) names) t a) kept_is
+      (subst (λ b. RefinesAlgorithm s (test_and_give level id b names) t a) both_is refines)).is;
 }

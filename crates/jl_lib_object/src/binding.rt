@@ -9,10 +9,10 @@ ghost use Rattle.jl_meaning.specs.builtins.Arguments.{give_object};
 ghost use Rattle.jl_meaning.specs.builtins.Function.{bound_length, create_bound, function_bind};
 ghost use Rattle.jl_state.specs.Clauses.{Computes, RankAtMost};
 ghost use Rattle.jl_state.specs.Words.{call_of};
-ghost use Rattle.jl_store.specs.Comes.{Comes};
+ghost use Rattle.jl_store.specs.BigStep.{BigStep};
 
 use crate::waiting::argument_of;
-use jl_builtin::{need_function, rest_of};
+use jl_builtin::{continuation_of, need_function};
 use jl_heap::{Inner, Prop};
 use jl_state::{Act, Invocation, State};
 use jl_store::{Answer, Store, count};
@@ -78,7 +78,7 @@ fn create_bound(
     this: Value,
     args: List<Value>,
 ) -> Result<ObjId, NoMemory>
-    ensures { IfOk result (λ id. Comes (create_bound target this args) store.old store.new (Ends (gives id))) }
+    ensures { IfOk result (λ id. BigStep (create_bound target this args) store.old store.new (Ends (gives id))) }
 {
     let length = count(bound_length(alloc, store, target, args.items())?)?;
     let name = word(alloc, "length")?;
@@ -96,8 +96,8 @@ fn give_bound<'p>(
     this: Value,
     args: List<Value>,
 ) -> Result<Act<'p>, NoMemory>
-    ensures leads { Computes state.old (create_bound target this args then give_object) result state.new }
-    ensures falls { RankAtMost state.old 3 result state.new }
+    ensures refines { Computes state.old (create_bound target this args then give_object) result state.new }
+    ensures bounded { RankAtMost state.old 3 result state.new }
 {
     let alloc = state.alloc();
     let id = create_bound(alloc, &mut state.store, target, this, args)?;
@@ -109,12 +109,12 @@ pub(crate) fn function_bind<'p>(
     state: &mut State<'p>,
     call: &Invocation,
 ) -> Result<Act<'p>, NoMemory>
-    ensures leads { Computes state.old (function_bind (call_of call.now)) result state.new }
-    ensures falls { RankAtMost state.old 3 result state.new }
+    ensures refines { Computes state.old (function_bind (call_of call.now)) result state.new }
+    ensures bounded { RankAtMost state.old 3 result state.new }
 {
     let alloc = state.alloc();
     let this = argument_of(alloc, call, 0)?;
-    let args = rest_of(alloc, call.args.items(), 1)?;
+    let args = continuation_of(alloc, call.args.items(), 1)?;
     match need_function(&mut state.store, &call.this)? {
         Answer::Throws(thrown) => Ok(Act::Complete(Completion::Throw(thrown))),
         Answer::Gives(target) => give_bound(state, target, this, args),

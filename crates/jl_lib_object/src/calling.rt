@@ -10,7 +10,9 @@ ghost use Rattle.jl_state.specs.Words.{call_of};
 
 use crate::waiting::{argument_of, wait_function};
 use jl_algorithm::{get, to_primitive};
-use jl_builtin::{get_index, length_of, need_function, need_object, number_of_primitive, rest_of};
+use jl_builtin::{
+    continuation_of, get_index, length_of, need_function, need_object, number_of_primitive,
+};
 use jl_progress::FunctionProgress;
 use jl_state::{Act, Hint, Invocation, State};
 use jl_store::Answer;
@@ -28,8 +30,8 @@ fn get_element<'p>(
     length: usize,
 ) -> Result<Act<'p>, NoMemory>
     requires { at < length }
-    ensures leads { Computes state.old (Step (apply_element function this list args at length)) result state.new }
-    ensures falls { RankAtMost state.old 1 result state.new }
+    ensures refines { Computes state.old (Step (apply_element function this list args at length)) result state.new }
+    ensures bounded { RankAtMost state.old 1 result state.new }
 {
     if !state.spend() {
         return Ok(Act::Spent);
@@ -58,8 +60,8 @@ fn apply_from<'p>(
     from: usize,
     length: usize,
 ) -> Result<Act<'p>, NoMemory>
-    ensures leads { Computes state.old (apply_by function this list (length - from) from args) result state.new }
-    ensures falls { RankAtMost state.old 3 result state.new }
+    ensures refines { Computes state.old (apply_by function this list (length - from) from args) result state.new }
+    ensures bounded { RankAtMost state.old 3 result state.new }
 {
     let alloc = state.alloc();
     if from < length {
@@ -87,9 +89,9 @@ pub(crate) fn step_element<'p>(
     length: usize,
     v: Value,
 ) -> Result<Act<'p>, NoMemory>
-    ensures leads { Computes state.old (function_after (FunctionProgress.Element function this list args from
+    ensures refines { Computes state.old (function_after (FunctionProgress.Element function this list args from
         length) v) result state.new }
-    ensures falls { RankAtMost state.old 3 result state.new }
+    ensures bounded { RankAtMost state.old 3 result state.new }
 {
     let mut args = args;
     args.push(v)?;
@@ -104,9 +106,9 @@ pub(crate) fn step_length<'p>(
     list: ObjId,
     v: Value,
 ) -> Result<Act<'p>, NoMemory>
-    ensures leads { Computes state.old (function_after (FunctionProgress.Length function this list) v) result
+    ensures refines { Computes state.old (function_after (FunctionProgress.Length function this list) v) result
         state.new }
-    ensures falls { RankAtMost state.old 22 result state.new }
+    ensures bounded { RankAtMost state.old 22 result state.new }
 {
     wait_function(
         state,
@@ -127,9 +129,9 @@ pub(crate) fn step_length_primitive<'p>(
     list: ObjId,
     p: &Value,
 ) -> Result<Act<'p>, NoMemory>
-    ensures leads { Computes state.old (function_after (FunctionProgress.LengthPrimitive function this list) p.now)
+    ensures refines { Computes state.old (function_after (FunctionProgress.LengthPrimitive function this list) p.now)
         result state.new }
-    ensures falls { RankAtMost state.old 3 result state.new }
+    ensures bounded { RankAtMost state.old 3 result state.new }
 {
     let alloc = state.alloc();
     let Some(n) = number_of_primitive(p) else {
@@ -146,8 +148,8 @@ fn get_length<'p>(
     this: Value,
     list: ObjId,
 ) -> Result<Act<'p>, NoMemory>
-    ensures leads { Computes state.old (apply_list function this list) result state.new }
-    ensures falls { RankAtMost state.old 26 result state.new }
+    ensures refines { Computes state.old (apply_list function this list) result state.new }
+    ensures bounded { RankAtMost state.old 26 result state.new }
 {
     let alloc = state.alloc();
     let name = word(alloc, "length")?;
@@ -169,9 +171,9 @@ fn apply_values<'p>(
     this: Value,
     values: &Value,
 ) -> Result<Act<'p>, NoMemory>
-    ensures leads { Computes state.old (arguments_in values.now then λ args. call function this args) result
+    ensures refines { Computes state.old (arguments_in values.now then λ args. call function this args) result
         state.new }
-    ensures falls { RankAtMost state.old 26 result state.new }
+    ensures bounded { RankAtMost state.old 26 result state.new }
 {
     let alloc = state.alloc();
     if is_nothing(values) {
@@ -196,8 +198,8 @@ pub(crate) fn function_apply<'p>(
     state: &mut State<'p>,
     call: &Invocation,
 ) -> Result<Act<'p>, NoMemory>
-    ensures leads { Computes state.old (function_apply (call_of call.now)) result state.new }
-    ensures falls { RankAtMost state.old 26 result state.new }
+    ensures refines { Computes state.old (function_apply (call_of call.now)) result state.new }
+    ensures bounded { RankAtMost state.old 26 result state.new }
 {
     let alloc = state.alloc();
     let this = argument_of(alloc, call, 0)?;
@@ -213,12 +215,12 @@ pub(crate) fn function_call<'p>(
     state: &mut State<'p>,
     call: &Invocation,
 ) -> Result<Act<'p>, NoMemory>
-    ensures leads { Computes state.old (function_call (call_of call.now)) result state.new }
-    ensures falls { RankAtMost state.old 3 result state.new }
+    ensures refines { Computes state.old (function_call (call_of call.now)) result state.new }
+    ensures bounded { RankAtMost state.old 3 result state.new }
 {
     let alloc = state.alloc();
     let this = argument_of(alloc, call, 0)?;
-    let args = rest_of(alloc, call.args.items(), 1)?;
+    let args = continuation_of(alloc, call.args.items(), 1)?;
     match need_function(&mut state.store, &call.this)? {
         Answer::Throws(thrown) => Ok(Act::Complete(Completion::Throw(thrown))),
         Answer::Gives(callee) => Act::call(

@@ -16,7 +16,7 @@ ghost use Rattle.jl_progress.specs.Objects.{after_descriptor, rank_definitions, 
 ghost use Rattle.jl_state.specs.Clauses.{Computes, RankAtMost};
 ghost use Rattle.jl_state.specs.Words.{call_of};
 ghost use Rattle.jl_store.specs.Answers.{ends_with};
-ghost use Rattle.jl_store.specs.Comes.{Comes};
+ghost use Rattle.jl_store.specs.BigStep.{BigStep};
 
 use crate::descriptors::to_property_descriptor;
 use crate::own_names::{enumerable_names, name_from};
@@ -25,7 +25,7 @@ use jl_algorithm::{define_own_property, get, to_primitive};
 use jl_heap::{Change, Inner};
 use jl_operator::text_of;
 use jl_progress::{DescriptorUse, NamedChange, ObjectProgress};
-use jl_state::{Act, Hint, Invocation, State, WrittenBy};
+use jl_state::{Act, AfterDefine, Hint, Invocation, State};
 use jl_store::{Answer, Store};
 use jl_text::{List, NoMemory, Text};
 use jl_value::{Class, Completion, ObjId, Value, is_undefined, share_optional};
@@ -38,12 +38,12 @@ pub(crate) fn use_change<'p>(
     purpose: DescriptorUse,
 ) -> Result<Act<'p>, NoMemory>
     requires { IsOneKind change }
-    ensures leads { Computes state.old (after_descriptor purpose change) result state.new }
-    ensures falls { RankAtMost state.old (rank_use purpose) result state.new }
+    ensures refines { Computes state.old (after_descriptor purpose change) result state.new }
+    ensures bounded { RankAtMost state.old (rank_use purpose) result state.new }
 {
     match purpose {
         DescriptorUse::One { object, name } => {
-            let purpose = WrittenBy::Builtin {
+            let purpose = AfterDefine::Builtin {
                 gives: Value::Obj(object),
             };
             define_own_property(state, object, &name, change, purpose)
@@ -72,9 +72,9 @@ fn read_changes<'p>(
     names: List<Text>,
     from: usize,
 ) -> Result<Act<'p>, NoMemory>
-    ensures leads { Computes state.old (changes_of descriptors changes (drop from names) then define_and_give
+    ensures refines { Computes state.old (changes_of descriptors changes (drop from names) then define_and_give
         object) result state.new }
-    ensures falls { RankAtMost state.old (rank_definitions (length changes) + 2) result state.new }
+    ensures bounded { RankAtMost state.old (rank_definitions (length changes) + 2) result state.new }
 {
     let alloc = state.alloc();
     match name_from(alloc, names.items(), from)? {
@@ -101,9 +101,9 @@ fn get_descriptor<'p>(
     names: List<Text>,
     from: usize,
 ) -> Result<Act<'p>, NoMemory>
-    ensures leads { Computes state.old (Step (read_descriptor object descriptors changes name names from)) result
+    ensures refines { Computes state.old (Step (read_descriptor object descriptors changes name names from)) result
         state.new }
-    ensures falls { RankAtMost state.old 1 result state.new }
+    ensures bounded { RankAtMost state.old 1 result state.new }
 {
     let alloc = state.alloc();
     if !state.spend() {
@@ -130,8 +130,8 @@ pub(crate) fn step_descriptor<'p>(
     purpose: DescriptorUse,
     v: &Value,
 ) -> Result<Act<'p>, NoMemory>
-    ensures leads { Computes state.old (define_by purpose v.now) result state.new }
-    ensures falls { RankAtMost state.old (rank_use purpose + 28) result state.new }
+    ensures refines { Computes state.old (define_by purpose v.now) result state.new }
+    ensures bounded { RankAtMost state.old (rank_use purpose + 28) result state.new }
 {
     to_property_descriptor(state, v, purpose)
 }
@@ -143,8 +143,8 @@ pub(crate) fn define_from<'p>(
     changes: List<NamedChange>,
     from: usize,
 ) -> Result<Act<'p>, NoMemory>
-    ensures leads { Computes state.old (define_and_give object (drop from changes)) result state.new }
-    ensures falls { RankAtMost state.old (rank_definitions (length (drop from changes)) + 2) result state.new }
+    ensures refines { Computes state.old (define_and_give object (drop from changes)) result state.new }
+    ensures bounded { RankAtMost state.old (rank_definitions (length (drop from changes)) + 2) result state.new }
 {
     let alloc = state.alloc();
     match change_from(alloc, changes.items(), from)? {
@@ -161,13 +161,13 @@ fn define_one<'p>(
     changes: List<NamedChange>,
     from: usize,
 ) -> Result<Act<'p>, NoMemory>
-    ensures leads { Computes state.old (define_or_throw object named.now.0 named.now.1 then λ _. define_and_give
+    ensures refines { Computes state.old (define_or_throw object named.now.0 named.now.1 then λ _. define_and_give
         object (drop from changes)) result state.new }
-    ensures falls { RankAtMost state.old (rank_definitions (length (drop from changes)) + 40) result state.new }
+    ensures bounded { RankAtMost state.old (rank_definitions (length (drop from changes)) + 40) result state.new }
 {
     let alloc = state.alloc();
     let change = copy_of(alloc, named.change())?;
-    let purpose = WrittenBy::Builtin {
+    let purpose = AfterDefine::Builtin {
         gives: Value::Undefined,
     };
     wait_object(
@@ -221,8 +221,8 @@ fn copy_of(alloc: Global, change: &Change) -> Result<Change, NoMemory>
 
 /// What an object of descriptors describes is defined (15.2.3.7, steps 2 to 6), and the object that has it now given.
 fn define_all<'p>(state: &mut State<'p>, object: ObjId, v: &Value) -> Result<Act<'p>, NoMemory>
-    ensures leads { Computes state.old (define_all object v.now then λ _. give_object object) result state.new }
-    ensures falls { RankAtMost state.old 9 result state.new }
+    ensures refines { Computes state.old (define_all object v.now then λ _. give_object object) result state.new }
+    ensures bounded { RankAtMost state.old 9 result state.new }
 {
     match state.store.to_object(v)? {
         Answer::Throws(thrown) => Ok(Act::Complete(Completion::Throw(thrown))),
@@ -236,9 +236,9 @@ fn read_all<'p>(
     object: ObjId,
     descriptors: ObjId,
 ) -> Result<Act<'p>, NoMemory>
-    ensures leads { Computes state.old (changes_of descriptors [] (enumerable_names state.old.store descriptors.0)
+    ensures refines { Computes state.old (changes_of descriptors [] (enumerable_names state.old.store descriptors.0)
         then define_and_give object) result state.new }
-    ensures falls { RankAtMost state.old 9 result state.new }
+    ensures bounded { RankAtMost state.old 9 result state.new }
 {
     let alloc = state.alloc();
     let names = enumerable_names(alloc, &state.store, descriptors)?;
@@ -248,7 +248,7 @@ fn read_all<'p>(
 
 /// A prototype: an object, or null (15.2.3.5, step 1).
 fn need_prototype(store: &mut Store, v: &Value) -> Result<Answer<Option<ObjId>>, NoMemory>
-    ensures { IfOk result (λ answer. Comes (need_prototype v.now) store.old store.new (ends_with answer)) }
+    ensures { IfOk result (λ answer. BigStep (need_prototype v.now) store.old store.new (ends_with answer)) }
 {
     match v {
         Value::Obj(id) => Ok(Answer::Gives(Some(*id))),
@@ -259,9 +259,9 @@ fn need_prototype(store: &mut Store, v: &Value) -> Result<Answer<Option<ObjId>>,
 
 /// Properties are defined, where they are given, on an object that is then given itself.
 fn define_given<'p>(state: &mut State<'p>, object: ObjId, v: &Value) -> Result<Act<'p>, NoMemory>
-    ensures leads { Computes state.old (unless_undefined tt (define_all object) v.now then λ _. give_object object)
+    ensures refines { Computes state.old (unless_undefined tt (define_all object) v.now then λ _. give_object object)
         result state.new }
-    ensures falls { RankAtMost state.old 9 result state.new }
+    ensures bounded { RankAtMost state.old 9 result state.new }
 {
     if is_undefined(v) {
         return Ok(Act::Give(Value::Obj(object)));
@@ -271,7 +271,7 @@ fn define_given<'p>(state: &mut State<'p>, object: ObjId, v: &Value) -> Result<A
 
 /// A new object of class Object with a prototype, or with none.
 fn new_object(store: &mut Store, proto: Option<ObjId>) -> Result<ObjId, NoMemory>
-    ensures { IfOk result (λ id. Comes (new_object Class.Object proto inner.Nothing) store.old store.new
+    ensures { IfOk result (λ id. BigStep (new_object Class.Object proto inner.Nothing) store.old store.new
         (Ends (gives id))) }
 {
     let id = store.new_object(Class::Object, proto, Inner::Nothing)?;
@@ -284,8 +284,8 @@ fn create_with<'p>(
     proto: Option<ObjId>,
     properties: &Value,
 ) -> Result<Act<'p>, NoMemory>
-    ensures leads { Computes state.old (create_with proto properties.now) result state.new }
-    ensures falls { RankAtMost state.old 9 result state.new }
+    ensures refines { Computes state.old (create_with proto properties.now) result state.new }
+    ensures bounded { RankAtMost state.old 9 result state.new }
 {
     let object = new_object(&mut state.store, proto)?;
     define_given(state, object, properties)
@@ -296,8 +296,8 @@ pub(crate) fn object_create<'p>(
     state: &mut State<'p>,
     call: &Invocation,
 ) -> Result<Act<'p>, NoMemory>
-    ensures leads { Computes state.old (object_create (call_of call.now)) result state.new }
-    ensures falls { RankAtMost state.old 9 result state.new }
+    ensures refines { Computes state.old (object_create (call_of call.now)) result state.new }
+    ensures bounded { RankAtMost state.old 9 result state.new }
 {
     let alloc = state.alloc();
     let proto = argument_of(alloc, call, 0)?;
@@ -313,8 +313,8 @@ pub(crate) fn object_define_properties<'p>(
     state: &mut State<'p>,
     call: &Invocation,
 ) -> Result<Act<'p>, NoMemory>
-    ensures leads { Computes state.old (object_define_properties (call_of call.now)) result state.new }
-    ensures falls { RankAtMost state.old 9 result state.new }
+    ensures refines { Computes state.old (object_define_properties (call_of call.now)) result state.new }
+    ensures bounded { RankAtMost state.old 9 result state.new }
 {
     let alloc = state.alloc();
     let properties = argument_of(alloc, call, 1)?;
@@ -331,9 +331,9 @@ fn convert_name<'p>(
     name: Value,
     descriptor: Value,
 ) -> Result<Act<'p>, NoMemory>
-    ensures leads { Computes state.old (to_string name then λ x. define_by (DescriptorUse.One object x) descriptor)
+    ensures refines { Computes state.old (to_string name then λ x. define_by (DescriptorUse.One object x) descriptor)
         result state.new }
-    ensures falls { RankAtMost state.old 96 result state.new }
+    ensures bounded { RankAtMost state.old 96 result state.new }
 {
     wait_object(state, ObjectProgress::DefinedName { object, descriptor })?;
     to_primitive(state, name, Hint::Text)
@@ -344,8 +344,8 @@ pub(crate) fn object_define_property<'p>(
     state: &mut State<'p>,
     call: &Invocation,
 ) -> Result<Act<'p>, NoMemory>
-    ensures leads { Computes state.old (object_define_property (call_of call.now)) result state.new }
-    ensures falls { RankAtMost state.old 96 result state.new }
+    ensures refines { Computes state.old (object_define_property (call_of call.now)) result state.new }
+    ensures bounded { RankAtMost state.old 96 result state.new }
 {
     let alloc = state.alloc();
     let name = argument_of(alloc, call, 1)?;
@@ -363,9 +363,9 @@ pub(crate) fn step_defined_name<'p>(
     descriptor: &Value,
     p: &Value,
 ) -> Result<Act<'p>, NoMemory>
-    ensures leads { Computes state.old (define_by (DescriptorUse.One object (text_of_value p.now)) descriptor.now)
+    ensures refines { Computes state.old (define_by (DescriptorUse.One object (text_of_value p.now)) descriptor.now)
         result state.new }
-    ensures falls { RankAtMost state.old 82 result state.new }
+    ensures bounded { RankAtMost state.old 82 result state.new }
 {
     let alloc = state.alloc();
     let name = text_of(alloc, p)?;

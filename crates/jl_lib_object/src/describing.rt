@@ -11,7 +11,7 @@ ghost use Rattle.jl_meaning.specs.builtins.Descriptors.{accessor_value, from_pro
 ghost use Rattle.jl_meaning.specs.builtins.Object.{object_get_own_property_descriptor};
 ghost use Rattle.jl_state.specs.Clauses.{Computes, RankAtMost};
 ghost use Rattle.jl_state.specs.Words.{call_of};
-ghost use Rattle.jl_store.specs.Comes.{Comes};
+ghost use Rattle.jl_store.specs.BigStep.{BigStep};
 ghost use Rattle.jl_store.specs.LookUps.{property_found};
 
 use crate::waiting::{argument_of, first_object, wait_object};
@@ -81,7 +81,7 @@ fn describe_data(
     enumerable: bool,
     configurable: bool,
 ) -> Result<Value, NoMemory>
-    ensures { IfOk result (λ v. Comes
+    ensures { IfOk result (λ v. BigStep
         (from_property_descriptor (Some (Plain value writable enumerable configurable))) store.old store.new
         (Ends (gives v))) }
 {
@@ -116,7 +116,7 @@ fn describe_accessor(
     enumerable: bool,
     configurable: bool,
 ) -> Result<Value, NoMemory>
-    ensures { IfOk result (λ v. Comes
+    ensures { IfOk result (λ v. BigStep
         (from_property_descriptor (Some (Accessor getter setter enumerable configurable))) store.old store.new
         (Ends (gives v))) }
 {
@@ -134,7 +134,7 @@ fn describe_accessor(
 
 /// FromPropertyDescriptor (8.10.4).
 fn describe(alloc: Global, store: &mut Store, property: Prop) -> Result<Value, NoMemory>
-    ensures { IfOk result (λ v. Comes (from_property_descriptor (Some property)) store.old store.new
+    ensures { IfOk result (λ v. BigStep (from_property_descriptor (Some property)) store.old store.new
         (Ends (gives v))) }
 {
     match property {
@@ -155,8 +155,8 @@ fn describe(alloc: Global, store: &mut Store, property: Prop) -> Result<Value, N
 
 /// An own property of an object is described, if it has it.
 fn describe_own<'p>(state: &mut State<'p>, object: ObjId, name: &Text) -> Result<Act<'p>, NoMemory>
-    ensures leads { Computes state.old (describe_own object name.now) result state.new }
-    ensures falls { RankAtMost state.old 3 result state.new }
+    ensures refines { Computes state.old (describe_own object name.now) result state.new }
+    ensures bounded { RankAtMost state.old 3 result state.new }
 {
     let alloc = state.alloc();
     match own_property(alloc, &state.store, object, name)? {
@@ -174,8 +174,8 @@ pub(crate) fn step_described_name<'p>(
     object: ObjId,
     p: &Value,
 ) -> Result<Act<'p>, NoMemory>
-    ensures leads { Computes state.old (describe_own object (text_of_value p.now)) result state.new }
-    ensures falls { RankAtMost state.old 3 result state.new }
+    ensures refines { Computes state.old (describe_own object (text_of_value p.now)) result state.new }
+    ensures bounded { RankAtMost state.old 3 result state.new }
 {
     let alloc = state.alloc();
     let name = text_of(alloc, p)?;
@@ -184,8 +184,8 @@ pub(crate) fn step_described_name<'p>(
 
 /// The name of a property that is to be described is converted.
 fn convert_name<'p>(state: &mut State<'p>, object: ObjId, name: Value) -> Result<Act<'p>, NoMemory>
-    ensures leads { Computes state.old (to_string name then describe_own object) result state.new }
-    ensures falls { RankAtMost state.old 22 result state.new }
+    ensures refines { Computes state.old (to_string name then describe_own object) result state.new }
+    ensures bounded { RankAtMost state.old 22 result state.new }
 {
     wait_object(state, ObjectProgress::DescribedName { object })?;
     to_primitive(state, name, Hint::Text)
@@ -196,8 +196,8 @@ pub(crate) fn object_get_own_property_descriptor<'p>(
     state: &mut State<'p>,
     call: &Invocation,
 ) -> Result<Act<'p>, NoMemory>
-    ensures leads { Computes state.old (object_get_own_property_descriptor (call_of call.now)) result state.new }
-    ensures falls { RankAtMost state.old 22 result state.new }
+    ensures refines { Computes state.old (object_get_own_property_descriptor (call_of call.now)) result state.new }
+    ensures bounded { RankAtMost state.old 22 result state.new }
 {
     let alloc = state.alloc();
     let name = argument_of(alloc, call, 1)?;

@@ -10,7 +10,7 @@ ghost use Rattle.jl_meaning.specs.builtins.Descriptors.{of_one_kind, to_property
 ghost use Rattle.jl_progress.specs.Objects.{after_descriptor, object_after, rank_object, rank_use};
 ghost use Rattle.jl_state.specs.Clauses.{Computes, RankAtMost};
 ghost use Rattle.jl_store.specs.Answers.{ends_with};
-ghost use Rattle.jl_store.specs.Comes.{Comes};
+ghost use Rattle.jl_store.specs.BigStep.{BigStep};
 
 use crate::defining::use_change;
 use crate::waiting::wait_object;
@@ -68,7 +68,7 @@ fn no_change() -> Change
 
 /// A getter or a setter: a function, or undefined (steps 7 and 8).
 fn function_or_undefined(store: &mut Store, v: &Value) -> Result<Answer<Option<ObjId>>, NoMemory>
-    ensures { IfOk result (λ answer. Comes (function_or_undefined v.now) store.old store.new (ends_with answer)) }
+    ensures { IfOk result (λ answer. BigStep (function_or_undefined v.now) store.old store.new (ends_with answer)) }
 {
     if is_undefined(v) {
         return Ok(Answer::Gives(None));
@@ -81,7 +81,7 @@ fn function_or_undefined(store: &mut Store, v: &Value) -> Result<Answer<Option<O
 
 /// A change with a getter.
 fn with_getter(store: &mut Store, v: &Value, change: Change) -> Result<Answer<Change>, NoMemory>
-    ensures { IfOk result (λ answer. Comes (with_field DescriptorField.Get v.now change) store.old store.new
+    ensures { IfOk result (λ answer. BigStep (with_field DescriptorField.Get v.now change) store.old store.new
         (ends_with answer)) }
 {
     match function_or_undefined(store, v)? {
@@ -95,7 +95,7 @@ fn with_getter(store: &mut Store, v: &Value, change: Change) -> Result<Answer<Ch
 
 /// A change with a setter.
 fn with_setter(store: &mut Store, v: &Value, change: Change) -> Result<Answer<Change>, NoMemory>
-    ensures { IfOk result (λ answer. Comes (with_field DescriptorField.Set v.now change) store.old store.new
+    ensures { IfOk result (λ answer. BigStep (with_field DescriptorField.Set v.now change) store.old store.new
         (ends_with answer)) }
 {
     match function_or_undefined(store, v)? {
@@ -114,7 +114,7 @@ fn with_field(
     v: Value,
     change: Change,
 ) -> Result<Answer<Change>, NoMemory>
-    ensures { IfOk result (λ answer. Comes (with_field field v change) store.old store.new (ends_with answer)) }
+    ensures { IfOk result (λ answer. BigStep (with_field field v change) store.old store.new (ends_with answer)) }
 {
     match field {
         DescriptorField::Enumerable => Ok(Answer::Gives(Change {
@@ -197,9 +197,9 @@ fn get_field<'p>(
     change: Change,
     purpose: DescriptorUse,
 ) -> Result<Act<'p>, NoMemory>
-    ensures leads { Computes state.old (get (Value.Obj descriptor) (field_name field) then object_after
+    ensures refines { Computes state.old (get (Value.Obj descriptor) (field_name field) then object_after
         (ObjectProgress.Field field descriptor change purpose)) result state.new }
-    ensures falls { RankAtMost state.old (rank_object (ObjectProgress.Field field descriptor change purpose) + 4)
+    ensures bounded { RankAtMost state.old (rank_object (ObjectProgress.Field field descriptor change purpose) + 4)
         result state.new }
 {
     let alloc = state.alloc();
@@ -224,9 +224,9 @@ fn read_fields<'p>(
     change: Change,
     purpose: DescriptorUse,
 ) -> Result<Act<'p>, NoMemory>
-    ensures leads { Computes state.old (change_from next descriptor change then after_descriptor purpose) result
+    ensures refines { Computes state.old (change_from next descriptor change then after_descriptor purpose) result
         state.new }
-    ensures falls { RankAtMost state.old (rank_use purpose + (4 * fields_from next + 4)) result state.new }
+    ensures bounded { RankAtMost state.old (rank_use purpose + (4 * fields_from next + 4)) result state.new }
 {
     let alloc = state.alloc();
     let Some(field) = next else {
@@ -252,8 +252,8 @@ fn take_change<'p>(
     change: Change,
     purpose: DescriptorUse,
 ) -> Result<Act<'p>, NoMemory>
-    ensures leads { Computes state.old (of_one_kind change then after_descriptor purpose) result state.new }
-    ensures falls { RankAtMost state.old (rank_use purpose) result state.new }
+    ensures refines { Computes state.old (of_one_kind change then after_descriptor purpose) result state.new }
+    ensures bounded { RankAtMost state.old (rank_use purpose) result state.new }
 {
     if is_both_kinds(&change) {
         return throw_native(state, ErrorKind::TypeError, "bad descriptor");
@@ -267,8 +267,8 @@ pub(crate) fn to_property_descriptor<'p>(
     v: &Value,
     purpose: DescriptorUse,
 ) -> Result<Act<'p>, NoMemory>
-    ensures leads { Computes state.old (to_property_descriptor v.now then after_descriptor purpose) result state.new }
-    ensures falls { RankAtMost state.old (rank_use purpose + 28) result state.new }
+    ensures refines { Computes state.old (to_property_descriptor v.now then after_descriptor purpose) result state.new }
+    ensures bounded { RankAtMost state.old (rank_use purpose + 28) result state.new }
 {
     match need_object(&mut state.store, v)? {
         Answer::Throws(thrown) => Ok(Act::Complete(Completion::Throw(thrown))),
@@ -288,9 +288,9 @@ pub(crate) fn step_field<'p>(
     purpose: DescriptorUse,
     v: Value,
 ) -> Result<Act<'p>, NoMemory>
-    ensures leads { Computes state.old (object_after (ObjectProgress.Field field descriptor change purpose) v)
+    ensures refines { Computes state.old (object_after (ObjectProgress.Field field descriptor change purpose) v)
         result state.new }
-    ensures falls { RankAtMost state.old (rank_object (ObjectProgress.Field field descriptor change purpose) + 2)
+    ensures bounded { RankAtMost state.old (rank_object (ObjectProgress.Field field descriptor change purpose) + 2)
         result state.new }
 {
     match with_field(&mut state.store, field, v, change)? {

@@ -86,9 +86,9 @@ pub(crate) fn function_to_string<'p>(
     state: &mut State<'p>,
     call: &Invocation,
 ) -> Result<Act<'p>, NoMemory>
-    ensures leads { Computes state.old (function_to_string (names_of (table_of state.old.functions)) (call_of
+    ensures refines { Computes state.old (function_to_string (names_of (table_of state.old.functions)) (call_of
         call.now)) result state.new }
-    ensures falls { RankAtMost state.old 3 result state.new }
+    ensures bounded { RankAtMost state.old 3 result state.new }
 {
     let alloc = state.alloc();
     let Some(name) = name_of_function(state, &call.this)? else {

@@ -21,7 +21,7 @@ use jl_algorithm::define_own_property;
 use jl_builtin::go_on;
 use jl_heap::{Change, Prop};
 use jl_progress::{Integrity, ObjectProgress, Progress};
-use jl_state::{Act, Invocation, State, WrittenBy};
+use jl_state::{Act, AfterDefine, Invocation, State};
 use jl_store::{Answer, Found, Store};
 use jl_text::{List, NoMemory, Text};
 use jl_value::{Completion, ObjId, Value};
@@ -108,16 +108,16 @@ fn redefine<'p>(
     object: ObjId,
     name: &Text,
 ) -> Result<Act<'p>, NoMemory>
-    ensures leads { Computes state.old (redefine (restricted_property integrity) object name.now then λ _. give
+    ensures refines { Computes state.old (redefine (restricted_property integrity) object name.now then λ _. give
         Value.Undefined) result state.new }
-    ensures falls { RankAtMost state.old 40 result state.new }
+    ensures bounded { RankAtMost state.old 40 result state.new }
 {
     let alloc = state.alloc();
     let Some(property) = own_property(alloc, &state.store, object, name)? else {
         return Ok(Act::Give(Value::Undefined));
     };
     let change = change_of(restricted_property(integrity, property));
-    let purpose = WrittenBy::Builtin {
+    let purpose = AfterDefine::Builtin {
         gives: Value::Undefined,
     };
     define_own_property(state, object, name, change, purpose)
@@ -132,9 +132,9 @@ fn restrict_one<'p>(
     names: List<Text>,
     from: usize,
 ) -> Result<Act<'p>, NoMemory>
-    ensures leads { Computes state.old (Step (redefine (restricted_property integrity) object name.now then λ _.
+    ensures refines { Computes state.old (Step (redefine (restricted_property integrity) object name.now then λ _.
         restrict_and_give integrity object (drop from names))) result state.new }
-    ensures falls { RankAtMost state.old 1 result state.new }
+    ensures bounded { RankAtMost state.old 1 result state.new }
 {
     if !state.spend() {
         return Ok(Act::Spent);
@@ -159,8 +159,8 @@ pub(crate) fn restrict_from<'p>(
     names: List<Text>,
     from: usize,
 ) -> Result<Act<'p>, NoMemory>
-    ensures leads { Computes state.old (restrict_and_give integrity object (drop from names)) result state.new }
-    ensures falls { RankAtMost state.old 3 result state.new }
+    ensures refines { Computes state.old (restrict_and_give integrity object (drop from names)) result state.new }
+    ensures bounded { RankAtMost state.old 3 result state.new }
 {
     let alloc = state.alloc();
     match name_from(alloc, names.items(), from)? {
@@ -178,9 +178,9 @@ fn restrict_all<'p>(
     integrity: Integrity,
     object: ObjId,
 ) -> Result<Act<'p>, NoMemory>
-    ensures leads { Computes state.old (restrict_and_give integrity object (own_names state.old.store object.0))
+    ensures refines { Computes state.old (restrict_and_give integrity object (own_names state.old.store object.0))
         result state.new }
-    ensures falls { RankAtMost state.old 3 result state.new }
+    ensures bounded { RankAtMost state.old 3 result state.new }
 {
     let alloc = state.alloc();
     let names = own_names(alloc, &state.store, object)?;
@@ -193,9 +193,9 @@ pub(crate) fn redefine_all<'p>(
     integrity: Integrity,
     call: &Invocation,
 ) -> Result<Act<'p>, NoMemory>
-    ensures leads { Computes state.old (redefine_all (restricted_property integrity) (call_of call.now)) result
+    ensures refines { Computes state.old (redefine_all (restricted_property integrity) (call_of call.now)) result
         state.new }
-    ensures falls { RankAtMost state.old 3 result state.new }
+    ensures bounded { RankAtMost state.old 3 result state.new }
 {
     let alloc = state.alloc();
     match first_object(alloc, &mut state.store, call)? {
@@ -249,9 +249,9 @@ fn test_one<'p>(
     names: List<Text>,
     from: usize,
 ) -> Result<Act<'p>, NoMemory>
-    ensures leads { Computes state.old (Step (test_one integrity object holds name.now (drop from names))) result
+    ensures refines { Computes state.old (Step (test_one integrity object holds name.now (drop from names))) result
         state.new }
-    ensures falls { RankAtMost state.old 1 result state.new }
+    ensures bounded { RankAtMost state.old 1 result state.new }
 {
     if !state.spend() {
         return Ok(Act::Spent);
@@ -276,8 +276,8 @@ pub(crate) fn test_from<'p>(
     names: List<Text>,
     from: usize,
 ) -> Result<Act<'p>, NoMemory>
-    ensures leads { Computes state.old (test_and_give integrity object holds (drop from names)) result state.new }
-    ensures falls { RankAtMost state.old 3 result state.new }
+    ensures refines { Computes state.old (test_and_give integrity object holds (drop from names)) result state.new }
+    ensures bounded { RankAtMost state.old 3 result state.new }
 {
     let alloc = state.alloc();
     match name_from(alloc, names.items(), from)? {
@@ -295,9 +295,9 @@ fn test_all<'p>(
     integrity: Integrity,
     object: ObjId,
 ) -> Result<Act<'p>, NoMemory>
-    ensures leads { Computes state.old (test_and_give integrity object true (own_names state.old.store object.0))
+    ensures refines { Computes state.old (test_and_give integrity object true (own_names state.old.store object.0))
         result state.new }
-    ensures falls { RankAtMost state.old 3 result state.new }
+    ensures bounded { RankAtMost state.old 3 result state.new }
 {
     let alloc = state.alloc();
     let names = own_names(alloc, &state.store, object)?;
@@ -310,9 +310,9 @@ pub(crate) fn are_all<'p>(
     integrity: Integrity,
     call: &Invocation,
 ) -> Result<Act<'p>, NoMemory>
-    ensures leads { Computes state.old (are_all (is_restricted_property integrity) (call_of call.now)) result
+    ensures refines { Computes state.old (are_all (is_restricted_property integrity) (call_of call.now)) result
         state.new }
-    ensures falls { RankAtMost state.old 3 result state.new }
+    ensures bounded { RankAtMost state.old 3 result state.new }
 {
     let alloc = state.alloc();
     match first_object(alloc, &mut state.store, call)? {
@@ -326,8 +326,8 @@ pub(crate) fn object_prevent_extensions<'p>(
     state: &mut State<'p>,
     call: &Invocation,
 ) -> Result<Act<'p>, NoMemory>
-    ensures leads { Computes state.old (object_prevent_extensions (call_of call.now)) result state.new }
-    ensures falls { RankAtMost state.old 3 result state.new }
+    ensures refines { Computes state.old (object_prevent_extensions (call_of call.now)) result state.new }
+    ensures bounded { RankAtMost state.old 3 result state.new }
 {
     let alloc = state.alloc();
     match first_object(alloc, &mut state.store, call)? {
@@ -344,8 +344,8 @@ pub(crate) fn object_is_extensible<'p>(
     state: &mut State<'p>,
     call: &Invocation,
 ) -> Result<Act<'p>, NoMemory>
-    ensures leads { Computes state.old (object_is_extensible (call_of call.now)) result state.new }
-    ensures falls { RankAtMost state.old 3 result state.new }
+    ensures refines { Computes state.old (object_is_extensible (call_of call.now)) result state.new }
+    ensures bounded { RankAtMost state.old 3 result state.new }
 {
     let alloc = state.alloc();
     match first_object(alloc, &mut state.store, call)? {

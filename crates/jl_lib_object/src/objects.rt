@@ -7,7 +7,7 @@ ghost use Rattle.jl_meaning.specs.builtins.Object.{object_value_of, prototype_va
 ghost use Rattle.jl_state.specs.Clauses.{Computes, RankAtMost};
 ghost use Rattle.jl_state.specs.Words.{call_of};
 ghost use Rattle.jl_store.specs.Answers.{ends_with};
-ghost use Rattle.jl_store.specs.Comes.{Comes};
+ghost use Rattle.jl_store.specs.BigStep.{BigStep};
 ghost use Rattle.jl_value.specs.Tests.{is_nothing};
 ghost use Rattle.jl_value.specs.Texts.{class_name};
 
@@ -19,7 +19,7 @@ use jl_value::{Class, Completion, ObjId, Value, is_nothing};
 
 /// A new object, or the object that a value converts to.
 fn object_for(store: &mut Store, v: &Value) -> Result<Answer<ObjId>, NoMemory>
-    ensures { IfOk result (λ answer. Comes (object_for v.now) store.old store.new (ends_with answer)) }
+    ensures { IfOk result (λ answer. BigStep (object_for v.now) store.old store.new (ends_with answer)) }
 {
     if is_nothing(v) {
         let id = store.new_plain_object()?;
@@ -31,8 +31,8 @@ fn object_for(store: &mut Store, v: &Value) -> Result<Answer<ObjId>, NoMemory>
 
 /// `Object(value)` and `new Object(value)` (15.2.1.1, 15.2.2.1).
 pub(crate) fn object_call<'p>(state: &mut State<'p>, call: &Invocation) -> Result<Act<'p>, NoMemory>
-    ensures leads { Computes state.old (object_call (call_of call.now)) result state.new }
-    ensures falls { RankAtMost state.old 3 result state.new }
+    ensures refines { Computes state.old (object_call (call_of call.now)) result state.new }
+    ensures bounded { RankAtMost state.old 3 result state.new }
 {
     let alloc = state.alloc();
     let v = argument_of(alloc, call, 0)?;
@@ -57,8 +57,8 @@ pub(crate) fn object_get_prototype_of<'p>(
     state: &mut State<'p>,
     call: &Invocation,
 ) -> Result<Act<'p>, NoMemory>
-    ensures leads { Computes state.old (object_get_prototype_of (call_of call.now)) result state.new }
-    ensures falls { RankAtMost state.old 3 result state.new }
+    ensures refines { Computes state.old (object_get_prototype_of (call_of call.now)) result state.new }
+    ensures bounded { RankAtMost state.old 3 result state.new }
 {
     let alloc = state.alloc();
     match first_object(alloc, &mut state.store, call)? {
@@ -88,8 +88,8 @@ fn class_text(class: Class) -> &'static str
 /// The text of what is an object, or converts to one.
 fn object_text<'p>(state: &mut State<'p>, v: &Value) -> Result<Act<'p>, NoMemory>
     requires { is_nothing v.now ≡ false }
-    ensures leads { Computes state.old (class_text v.now) result state.new }
-    ensures falls { RankAtMost state.old 3 result state.new }
+    ensures refines { Computes state.old (class_text v.now) result state.new }
+    ensures bounded { RankAtMost state.old 3 result state.new }
 {
     let alloc = state.alloc();
     match state.store.to_object(v)? {
@@ -106,8 +106,8 @@ pub(crate) fn object_to_string<'p>(
     state: &mut State<'p>,
     call: &Invocation,
 ) -> Result<Act<'p>, NoMemory>
-    ensures leads { Computes state.old (object_to_string (call_of call.now)) result state.new }
-    ensures falls { RankAtMost state.old 3 result state.new }
+    ensures refines { Computes state.old (object_to_string (call_of call.now)) result state.new }
+    ensures bounded { RankAtMost state.old 3 result state.new }
 {
     let alloc = state.alloc();
     match &call.this {
@@ -122,8 +122,8 @@ pub(crate) fn object_value_of<'p>(
     state: &mut State<'p>,
     call: &Invocation,
 ) -> Result<Act<'p>, NoMemory>
-    ensures leads { Computes state.old (object_value_of (call_of call.now)) result state.new }
-    ensures falls { RankAtMost state.old 3 result state.new }
+    ensures refines { Computes state.old (object_value_of (call_of call.now)) result state.new }
+    ensures bounded { RankAtMost state.old 3 result state.new }
 {
     match state.store.to_object(&call.this)? {
         Answer::Throws(thrown) => Ok(Act::Complete(Completion::Throw(thrown))),
@@ -137,8 +137,8 @@ fn is_prototype_of_object<'p>(
     call: &Invocation,
     id: ObjId,
 ) -> Result<Act<'p>, NoMemory>
-    ensures leads { Computes state.old (is_prototype_of_value (call_of call.now) (Value.Obj id)) result state.new }
-    ensures falls { RankAtMost state.old 3 result state.new }
+    ensures refines { Computes state.old (is_prototype_of_value (call_of call.now) (Value.Obj id)) result state.new }
+    ensures bounded { RankAtMost state.old 3 result state.new }
 {
     match state.store.to_object(&call.this)? {
         Answer::Throws(thrown) => Ok(Act::Complete(Completion::Throw(thrown))),
@@ -154,8 +154,8 @@ pub(crate) fn object_is_prototype_of<'p>(
     state: &mut State<'p>,
     call: &Invocation,
 ) -> Result<Act<'p>, NoMemory>
-    ensures leads { Computes state.old (object_is_prototype_of (call_of call.now)) result state.new }
-    ensures falls { RankAtMost state.old 3 result state.new }
+    ensures refines { Computes state.old (object_is_prototype_of (call_of call.now)) result state.new }
+    ensures bounded { RankAtMost state.old 3 result state.new }
 {
     let alloc = state.alloc();
     let v = argument_of(alloc, call, 0)?;

@@ -125,8 +125,8 @@ fn text_values(alloc: Global, names: &[Text]) -> Result<List<Value>, NoMemory>
 
 /// An array of names, which is filled one a turn.
 fn array_of_names<'p>(state: &mut State<'p>, names: &[Text]) -> Result<Act<'p>, NoMemory>
-    ensures leads { Computes state.old (array_of_names names.now) result state.new }
-    ensures falls { RankAtMost state.old 6 result state.new }
+    ensures refines { Computes state.old (array_of_names names.now) result state.new }
+    ensures bounded { RankAtMost state.old 6 result state.new }
 {
     let alloc = state.alloc();
     let values = text_values(alloc, names)?;
@@ -136,8 +136,8 @@ fn array_of_names<'p>(state: &mut State<'p>, names: &[Text]) -> Result<Act<'p>, 
 
 /// An array of the names of all own properties of an object.
 fn list_names<'p>(state: &mut State<'p>, id: ObjId) -> Result<Act<'p>, NoMemory>
-    ensures leads { Computes state.old (array_of_names (own_names state.old.store id.0)) result state.new }
-    ensures falls { RankAtMost state.old 6 result state.new }
+    ensures refines { Computes state.old (array_of_names (own_names state.old.store id.0)) result state.new }
+    ensures bounded { RankAtMost state.old 6 result state.new }
 {
     let alloc = state.alloc();
     let names = own_names(alloc, &state.store, id)?;
@@ -146,8 +146,8 @@ fn list_names<'p>(state: &mut State<'p>, id: ObjId) -> Result<Act<'p>, NoMemory>
 
 /// An array of the names of those that are enumerable.
 fn list_keys<'p>(state: &mut State<'p>, id: ObjId) -> Result<Act<'p>, NoMemory>
-    ensures leads { Computes state.old (array_of_names (enumerable_names state.old.store id.0)) result state.new }
-    ensures falls { RankAtMost state.old 6 result state.new }
+    ensures refines { Computes state.old (array_of_names (enumerable_names state.old.store id.0)) result state.new }
+    ensures bounded { RankAtMost state.old 6 result state.new }
 {
     let alloc = state.alloc();
     let names = enumerable_names(alloc, &state.store, id)?;
@@ -159,8 +159,8 @@ pub(crate) fn object_get_own_property_names<'p>(
     state: &mut State<'p>,
     call: &Invocation,
 ) -> Result<Act<'p>, NoMemory>
-    ensures leads { Computes state.old (object_get_own_property_names (call_of call.now)) result state.new }
-    ensures falls { RankAtMost state.old 6 result state.new }
+    ensures refines { Computes state.old (object_get_own_property_names (call_of call.now)) result state.new }
+    ensures bounded { RankAtMost state.old 6 result state.new }
 {
     let alloc = state.alloc();
     match first_object(alloc, &mut state.store, call)? {
@@ -171,8 +171,8 @@ pub(crate) fn object_get_own_property_names<'p>(
 
 /// `Object.keys(O)` (15.2.3.14).
 pub(crate) fn object_keys<'p>(state: &mut State<'p>, call: &Invocation) -> Result<Act<'p>, NoMemory>
-    ensures leads { Computes state.old (object_keys (call_of call.now)) result state.new }
-    ensures falls { RankAtMost state.old 6 result state.new }
+    ensures refines { Computes state.old (object_keys (call_of call.now)) result state.new }
+    ensures bounded { RankAtMost state.old 6 result state.new }
 {
     let alloc = state.alloc();
     match first_object(alloc, &mut state.store, call)? {

@@ -32,8 +32,8 @@ pub(crate) fn this_has<'p>(
     test: OwnTest,
     call: &Invocation,
 ) -> Result<Act<'p>, NoMemory>
-    ensures leads { Computes state.old (this_has (own_test_of test) (call_of call.now)) result state.new }
-    ensures falls { RankAtMost state.old 22 result state.new }
+    ensures refines { Computes state.old (this_has (own_test_of test) (call_of call.now)) result state.new }
+    ensures bounded { RankAtMost state.old 22 result state.new }
 {
     let alloc = state.alloc();
     let name = argument_of(alloc, call, 0)?;
@@ -49,8 +49,8 @@ pub(crate) fn step_own_name<'p>(
     this: &Value,
     p: &Value,
 ) -> Result<Act<'p>, NoMemory>
-    ensures leads { Computes state.old (object_after (ObjectProgress.OwnName test this.now) p.now) result state.new }
-    ensures falls { RankAtMost state.old 3 result state.new }
+    ensures refines { Computes state.old (object_after (ObjectProgress.OwnName test this.now) p.now) result state.new }
+    ensures bounded { RankAtMost state.old 3 result state.new }
 {
     let alloc = state.alloc();
     let name = text_of(alloc, p)?;

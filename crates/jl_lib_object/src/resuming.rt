@@ -21,8 +21,8 @@ pub fn resume_object<'p>(
     progress: ObjectProgress,
     v: Value,
 ) -> Result<Act<'p>, NoMemory>
-    ensures leads { Computes state.old (object_after progress v) result state.new }
-    ensures falls { RankAtMost state.old (rank_object progress + 2) result state.new }
+    ensures refines { Computes state.old (object_after progress v) result state.new }
+    ensures bounded { RankAtMost state.old (rank_object progress + 2) result state.new }
 {
     match progress {
         ObjectProgress::DescribedName { object } => step_described_name(state, object, &v),
@@ -81,8 +81,8 @@ pub fn resume_function<'p>(
     progress: FunctionProgress,
     v: Value,
 ) -> Result<Act<'p>, NoMemory>
-    ensures leads { Computes state.old (function_after progress v) result state.new }
-    ensures falls { RankAtMost state.old (rank_function progress + 2) result state.new }
+    ensures refines { Computes state.old (function_after progress v) result state.new }
+    ensures bounded { RankAtMost state.old (rank_function progress + 2) result state.new }
 {
     match progress {
         FunctionProgress::Length {

@@ -28,8 +28,8 @@ fn begin_object<'p>(
     builtin: ObjectBuiltin,
     call: &Invocation,
 ) -> Result<Act<'p>, NoMemory>
-    ensures leads { Computes state.old (object_algorithm builtin (call_of call.now)) result state.new }
-    ensures falls { RankAtMost state.old 96 result state.new }
+    ensures refines { Computes state.old (object_algorithm builtin (call_of call.now)) result state.new }
+    ensures bounded { RankAtMost state.old 96 result state.new }
 {
     match builtin {
         ObjectBuiltin::Constructor => object_call(state, call),
@@ -61,8 +61,8 @@ pub fn start_object<'p>(
     builtin: ObjectBuiltin,
     call: Invocation,
 ) -> Result<Act<'p>, NoMemory>
-    ensures leads { Computes state.old (object_algorithm builtin (call_of call)) result state.new }
-    ensures falls { RankAtMost state.old 400 result state.new }
+    ensures refines { Computes state.old (object_algorithm builtin (call_of call)) result state.new }
+    ensures bounded { RankAtMost state.old 400 result state.new }
 {
     begin_object(state, builtin, &call)
 }
@@ -73,9 +73,9 @@ fn begin_function<'p>(
     builtin: FunctionBuiltin,
     call: &Invocation,
 ) -> Result<Act<'p>, NoMemory>
-    ensures leads { Computes state.old (function_algorithm (names_of (table_of state.old.functions)) builtin (call_of
+    ensures refines { Computes state.old (function_algorithm (names_of (table_of state.old.functions)) builtin (call_of
         call.now)) result state.new }
-    ensures falls { RankAtMost state.old 96 result state.new }
+    ensures bounded { RankAtMost state.old 96 result state.new }
 {
     match builtin {
         FunctionBuiltin::Constructor => Ok(Act::Fault(Fault::CodeFromText)),
@@ -95,9 +95,9 @@ pub fn start_function<'p>(
     builtin: FunctionBuiltin,
     call: Invocation,
 ) -> Result<Act<'p>, NoMemory>
-    ensures leads { Computes state.old (function_algorithm (names_of (table_of state.old.functions)) builtin (call_of
+    ensures refines { Computes state.old (function_algorithm (names_of (table_of state.old.functions)) builtin (call_of
         call)) result state.new }
-    ensures falls { RankAtMost state.old 400 result state.new }
+    ensures bounded { RankAtMost state.old 400 result state.new }
 {
     begin_function(state, builtin, &call)
 }

@@ -4,7 +4,7 @@ ghost use Rattle.jl_meaning.specs.builtins.Arguments.{argument, need_object};
 ghost use Rattle.jl_state.specs.Steps.{AlgorithmWaits};
 ghost use Rattle.jl_state.specs.Words.{call_of};
 ghost use Rattle.jl_store.specs.Answers.{ends_with};
-ghost use Rattle.jl_store.specs.Comes.{Comes};
+ghost use Rattle.jl_store.specs.BigStep.{BigStep};
 
 use jl_builtin::{argument, need_object};
 use jl_progress::{FunctionProgress, ObjectProgress, Progress};
@@ -58,7 +58,7 @@ pub(crate) fn first_object(
     store: &mut Store,
     call: &Invocation,
 ) -> Result<Answer<ObjId>, NoMemory>
-    ensures { IfOk result (λ answer. Comes (need_object (argument (call_of call.now) 0)) store.old store.new
+    ensures { IfOk result (λ answer. BigStep (need_object (argument (call_of call.now) 0)) store.old store.new
         (ends_with answer)) }
 {
     let v = argument_of(alloc, call, 0)?;

@@ -12,7 +12,7 @@ use Rattle.jl_meaning.specs.builtins.Arguments.{give_string}
 use Rattle.jl_meaning.specs.builtins.String.{concat_all, units_from}
 use Rattle.jl_progress.specs.Strings.{string_after}
 use Rattle.jl_progress.specs.declared.string.StringProgress.TheVariants as progress
-use Rattle.jl_state.specs.Rest.{Works}
+use Rattle.jl_state.specs.Rest.{RefinesAlgorithm}
 use Rattle.jl_state.specs.Steps.{Took}
 use Rattle.jl_state.specs.declared.act.Act.{Act}
 use Rattle.jl_state.specs.declared.state.State.{State}
@@ -29,13 +29,14 @@ codes_from units v vs =
     (λ all. string_within all >>= λ within. give_string within))
 
 pub code_waits : (s t : State) (units : List ℕ) (v : Value) (args : List Value) (from : ℕ) (u : State) (a : Act)
-    → Took s t → Works t (to_primitive number_hint v >>= string_after (progress.CharCode units args from)) u a
-    → Works s (string_of_codes units (v ∷ drop from args)) u a
-code_waits s t units v args from u a took leads =
-    subst (λ q. Works s q u a) (codes_from units v (drop from args))
+    → Took s t → RefinesAlgorithm t (to_primitive number_hint v >>= string_after
+    (progress.CharCode units args from)) u a
+    → RefinesAlgorithm s (string_of_codes units (v ∷ drop from args)) u a
+code_waits s t units v args from u a took refines =
+    subst (λ q. RefinesAlgorithm s q u a) (codes_from units v (drop from args))
     (took.works (to_number v >>= λ n. string_of_codes (units ++ uint16_of n ∷ []) (drop from args)) u a
     (as_number t u a v (string_after (progress.CharCode units args from))
-    (λ n. string_of_codes (units ++ uint16_of n ∷ []) (drop from args)) (λ p. refl) leads))
+    (λ n. string_of_codes (units ++ uint16_of n ∷ []) (drop from args)) (λ p. refl) refines))
 
 -- an argument of `concat` takes a turn
 
@@ -49,11 +50,11 @@ joined_from units v vs =
     (λ all. give_string all))
 
 pub joined_waits : (s t : State) (units : List ℕ) (v : Value) (args : List Value) (from : ℕ) (u : State) (a : Act)
-    → Took s t → Works t (to_primitive string_hint v >>= string_after (progress.Joined units args from)) u a
-    → Works s (string_joined units (v ∷ drop from args)) u a
-joined_waits s t units v args from u a took leads =
-    subst (λ q. Works s q u a) (joined_from units v (drop from args))
+    → Took s t → RefinesAlgorithm t (to_primitive string_hint v >>= string_after (progress.Joined units args from)) u a
+    → RefinesAlgorithm s (string_joined units (v ∷ drop from args)) u a
+joined_waits s t units v args from u a took refines =
+    subst (λ q. RefinesAlgorithm s q u a) (joined_from units v (drop from args))
     (took.works (to_string v >>= λ more. string_within (units ++ more) >>= λ all. string_joined all (drop from args))
     u a
     (as_string t u a v (string_after (progress.Joined units args from))
-    (λ more. string_within (units ++ more) >>= λ all. string_joined all (drop from args)) (λ p. refl) leads))
+    (λ more. string_within (units ++ more) >>= λ all. string_joined all (drop from args)) (λ p. refl) refines))

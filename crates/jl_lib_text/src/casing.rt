@@ -4,7 +4,7 @@ ghost use Rattle.std.specs.Prelude.{◌≡◌, ◌≤◌, map, IfOk};
 ghost use Rattle.jl_lib_text.specs.inner.Letters.{letter_in, method_of_case, string_in_case};
 ghost use Rattle.jl_meaning.specs.builtins.String.{is_past_ascii};
 ghost use Rattle.jl_state.specs.Rank.{rank_act};
-ghost use Rattle.jl_state.specs.Rest.{Works};
+ghost use Rattle.jl_state.specs.Rest.{RefinesAlgorithm};
 ghost use Rattle.jl_state.specs.declared.state.State.{State as Machine};
 
 use crate::texts::text_of_units;
@@ -68,7 +68,7 @@ pub(crate) fn give_in_case<'p>(
     case: LetterCase,
     units: &Text,
 ) -> Result<Act<'p>, NoMemory>
-    ensures leads { IfOk result (λ act. (s : Machine) → Works s (string_in_case case units.now) s act) }
+    ensures refines { IfOk result (λ act. (s : Machine) → RefinesAlgorithm s (string_in_case case units.now) s act) }
     ensures low { IfOk result (λ act. rank_act act ≤ 2) }
 {
     if leaves_ascii(units.units()) {

@@ -22,8 +22,8 @@ fn string_of_codes<'p>(
     args: List<Value>,
     from: usize,
 ) -> Result<Act<'p>, NoMemory>
-    ensures leads { Computes state.old (string_of_codes units (drop from args)) result state.new }
-    ensures falls { RankAtMost state.old 3 result state.new }
+    ensures refines { Computes state.old (string_of_codes units (drop from args)) result state.new }
+    ensures bounded { RankAtMost state.old 3 result state.new }
 {
     let alloc = state.alloc();
     match value_from(alloc, args.items(), from)? {
@@ -40,8 +40,8 @@ fn convert_code<'p>(
     args: List<Value>,
     from: usize,
 ) -> Result<Act<'p>, NoMemory>
-    ensures leads { Computes state.old (string_of_codes units (v ∷ drop from args)) result state.new }
-    ensures falls { RankAtMost state.old 1 result state.new }
+    ensures refines { Computes state.old (string_of_codes units (v ∷ drop from args)) result state.new }
+    ensures bounded { RankAtMost state.old 1 result state.new }
 {
     if !state.spend() {
         return Ok(Act::Spent);
@@ -55,8 +55,8 @@ pub(crate) fn string_from_char_code<'p>(
     state: &mut State<'p>,
     call: &Invocation,
 ) -> Result<Act<'p>, NoMemory>
-    ensures leads { Computes state.old (string_from_char_code (call_of call.now)) result state.new }
-    ensures falls { RankAtMost state.old 3 result state.new }
+    ensures refines { Computes state.old (string_from_char_code (call_of call.now)) result state.new }
+    ensures bounded { RankAtMost state.old 3 result state.new }
 {
     let alloc = state.alloc();
     let units = List::new(alloc);
@@ -72,8 +72,8 @@ pub(crate) fn resume_char_code<'p>(
     from: usize,
     p: &Value,
 ) -> Result<Act<'p>, NoMemory>
-    ensures leads { Computes state.old (string_after (progress.CharCode units args from) p.now) result state.new }
-    ensures falls { RankAtMost state.old 3 result state.new }
+    ensures refines { Computes state.old (string_after (progress.CharCode units args from) p.now) result state.new }
+    ensures bounded { RankAtMost state.old 3 result state.new }
 {
     match number_of(p) {
         Ok(n) => {

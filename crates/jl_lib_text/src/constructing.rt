@@ -23,8 +23,8 @@ fn string_or_object<'p>(
     by_new: bool,
     units: Text,
 ) -> Result<Act<'p>, NoMemory>
-    ensures leads { Computes state.old (string_or_object by_new units) result state.new }
-    ensures falls { RankAtMost state.old 3 result state.new }
+    ensures refines { Computes state.old (string_or_object by_new units) result state.new }
+    ensures bounded { RankAtMost state.old 3 result state.new }
 {
     if !by_new {
         return Ok(Act::Give(Value::Text(units)));
@@ -38,8 +38,8 @@ pub(crate) fn string_constructor<'p>(
     state: &mut State<'p>,
     call: &Invocation,
 ) -> Result<Act<'p>, NoMemory>
-    ensures leads { Computes state.old (string_constructor (call_of call.now)) result state.new }
-    ensures falls { RankAtMost state.old 22 result state.new }
+    ensures refines { Computes state.old (string_constructor (call_of call.now)) result state.new }
+    ensures bounded { RankAtMost state.old 22 result state.new }
 {
     let alloc = state.alloc();
     let by_new = call.by_new;
@@ -61,8 +61,8 @@ pub(crate) fn resume_given<'p>(
     by_new: bool,
     p: &Value,
 ) -> Result<Act<'p>, NoMemory>
-    ensures leads { Computes state.old (string_or_object by_new (text_of_value p.now)) result state.new }
-    ensures falls { RankAtMost state.old 3 result state.new }
+    ensures refines { Computes state.old (string_or_object by_new (text_of_value p.now)) result state.new }
+    ensures bounded { RankAtMost state.old 3 result state.new }
 {
     let alloc = state.alloc();
     let units = text_of(alloc, p)?;
@@ -95,8 +95,8 @@ pub(crate) fn string_value<'p>(
     state: &mut State<'p>,
     call: &Invocation,
 ) -> Result<Act<'p>, NoMemory>
-    ensures leads { Computes state.old (string_value (call_of call.now)) result state.new }
-    ensures falls { RankAtMost state.old 3 result state.new }
+    ensures refines { Computes state.old (string_value (call_of call.now)) result state.new }
+    ensures bounded { RankAtMost state.old 3 result state.new }
 {
     let alloc = state.alloc();
     match string_of_receiver(alloc, &state.store, &call.this)? {

@@ -9,7 +9,7 @@ ghost use Rattle.jl_progress.specs.Strings.{string_after, units_cut};
 ghost use Rattle.jl_progress.specs.declared.string.StringProgress.TheVariants as progress;
 ghost use Rattle.jl_state.specs.Clauses.{Computes, RankAtMost};
 ghost use Rattle.jl_state.specs.Rank.{rank_act};
-ghost use Rattle.jl_state.specs.Rest.{Works};
+ghost use Rattle.jl_state.specs.Rest.{RefinesAlgorithm};
 ghost use Rattle.jl_state.specs.declared.state.State.{State as Machine};
 
 use crate::texts::range_of;
@@ -29,8 +29,8 @@ pub(crate) fn convert_start<'p>(
     units: Text,
     args: &[Value],
 ) -> Result<Act<'p>, NoMemory>
-    ensures leads { Computes state.old (part_of_string cut units args.now) result state.new }
-    ensures falls { RankAtMost state.old 46 result state.new }
+    ensures refines { Computes state.old (part_of_string cut units args.now) result state.new }
+    ensures bounded { RankAtMost state.old 46 result state.new }
 {
     let alloc = state.alloc();
     let start = argument(alloc, args, 0)?;
@@ -75,7 +75,7 @@ fn give_cut<'p>(
     start: Num,
     end: Num,
 ) -> Result<Act<'p>, NoMemory>
-    ensures leads { IfOk result (λ act. (s : Machine) → Works s
+    ensures refines { IfOk result (λ act. (s : Machine) → RefinesAlgorithm s
         (give_string (units_cut cut units.now (integer_of start) (integer_of end))) s act) }
     ensures low { IfOk result (λ act. rank_act act ≤ 2) }
 {
@@ -90,9 +90,9 @@ fn convert_end<'p>(
     start: Num,
     end: Value,
 ) -> Result<Act<'p>, NoMemory>
-    ensures leads { Computes state.old (to_end end (length units) then λ b. give_string (units_cut cut units
+    ensures refines { Computes state.old (to_end end (length units) then λ b. give_string (units_cut cut units
         (integer_of start) b)) result state.new }
-    ensures falls { RankAtMost state.old 22 result state.new }
+    ensures bounded { RankAtMost state.old 22 result state.new }
 {
     let alloc = state.alloc();
     if is_undefined(&end) {
@@ -111,8 +111,8 @@ pub(crate) fn resume_start<'p>(
     end: Value,
     p: &Value,
 ) -> Result<Act<'p>, NoMemory>
-    ensures leads { Computes state.old (string_after (progress.Start cut units end) p.now) result state.new }
-    ensures falls { RankAtMost state.old 22 result state.new }
+    ensures refines { Computes state.old (string_after (progress.Start cut units end) p.now) result state.new }
+    ensures bounded { RankAtMost state.old 22 result state.new }
 {
     match number_of(p) {
         Ok(start) => convert_end(state, cut, units, start, end),
@@ -128,8 +128,8 @@ pub(crate) fn resume_end<'p>(
     start: Num,
     p: &Value,
 ) -> Result<Act<'p>, NoMemory>
-    ensures leads { Computes state.old (string_after (progress.End cut units.now start) p.now) result state.new }
-    ensures falls { RankAtMost state.old 3 result state.new }
+    ensures refines { Computes state.old (string_after (progress.End cut units.now start) p.now) result state.new }
+    ensures bounded { RankAtMost state.old 3 result state.new }
 {
     let alloc = state.alloc();
     match number_of(p) {

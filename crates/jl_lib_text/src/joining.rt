@@ -22,8 +22,8 @@ fn string_joined<'p>(
     from: usize,
 ) -> Result<Act<'p>, NoMemory>
     requires { length units ≤ most_units }
-    ensures leads { Computes state.old (string_joined units (drop from args)) result state.new }
-    ensures falls { RankAtMost state.old 3 result state.new }
+    ensures refines { Computes state.old (string_joined units (drop from args)) result state.new }
+    ensures bounded { RankAtMost state.old 3 result state.new }
 {
     let alloc = state.alloc();
     match value_from(alloc, args.items(), from)? {
@@ -40,8 +40,8 @@ fn convert_next<'p>(
     args: List<Value>,
     from: usize,
 ) -> Result<Act<'p>, NoMemory>
-    ensures leads { Computes state.old (string_joined units (v ∷ drop from args)) result state.new }
-    ensures falls { RankAtMost state.old 1 result state.new }
+    ensures refines { Computes state.old (string_joined units (v ∷ drop from args)) result state.new }
+    ensures bounded { RankAtMost state.old 1 result state.new }
 {
     if !state.spend() {
         return Ok(Act::Spent);
@@ -56,8 +56,8 @@ pub(crate) fn join_all<'p>(
     units: &Text,
     args: &[Value],
 ) -> Result<Act<'p>, NoMemory>
-    ensures leads { Computes state.old (string_joined units.now args.now) result state.new }
-    ensures falls { RankAtMost state.old 3 result state.new }
+    ensures refines { Computes state.old (string_joined units.now args.now) result state.new }
+    ensures bounded { RankAtMost state.old 3 result state.new }
 {
     let alloc = state.alloc();
     let units = with_units(List::new(alloc), units.units())?;
@@ -73,8 +73,8 @@ pub(crate) fn resume_joined<'p>(
     from: usize,
     p: &Value,
 ) -> Result<Act<'p>, NoMemory>
-    ensures leads { Computes state.old (string_after (progress.Joined units args from) p.now) result state.new }
-    ensures falls { RankAtMost state.old 3 result state.new }
+    ensures refines { Computes state.old (string_after (progress.Joined units args from) p.now) result state.new }
+    ensures bounded { RankAtMost state.old 3 result state.new }
 {
     let alloc = state.alloc();
     let text = text_of(alloc, p)?;

@@ -5,7 +5,7 @@ ghost use Rattle.jl_progress.specs.Strings.{string_after};
 ghost use Rattle.jl_progress.specs.declared.string.StringProgress.TheVariants as progress;
 ghost use Rattle.jl_state.specs.Clauses.{Computes, RankAtMost};
 ghost use Rattle.jl_state.specs.Rank.{rank_act};
-ghost use Rattle.jl_state.specs.Rest.{Works};
+ghost use Rattle.jl_state.specs.Rest.{RefinesAlgorithm};
 ghost use Rattle.jl_state.specs.Words.{call_of};
 ghost use Rattle.jl_state.specs.declared.state.State.{State as Machine};
 
@@ -32,8 +32,8 @@ pub fn start_method<'p>(
     method: StringMethod,
     call: &Invocation,
 ) -> Result<Act<'p>, NoMemory>
-    ensures leads { Computes state.old (string_method_algorithm method (call_of call.now)) result state.new }
-    ensures falls { RankAtMost state.old 76 result state.new }
+    ensures refines { Computes state.old (string_method_algorithm method (call_of call.now)) result state.new }
+    ensures bounded { RankAtMost state.old 76 result state.new }
 {
     let alloc = state.alloc();
     match &call.this {
@@ -56,7 +56,7 @@ pub fn start_method<'p>(
 
 /// A string is given without the spaces at its ends (15.5.4.20).
 fn give_trimmed<'p>(alloc: Global, units: &Text) -> Result<Act<'p>, NoMemory>
-    ensures leads { IfOk result (λ act. (s : Machine) → Works s (string_trim units.now) s act) }
+    ensures refines { IfOk result (λ act. (s : Machine) → RefinesAlgorithm s (string_trim units.now) s act) }
     ensures low { IfOk result (λ act. rank_act act ≤ 2) }
 {
     let trimmed = without_end(without_front(units.units()));
@@ -70,8 +70,8 @@ fn method_of_string<'p>(
     units: Text,
     args: &[Value],
 ) -> Result<Act<'p>, NoMemory>
-    ensures leads { Computes state.old (method_of_string method units args.now) result state.new }
-    ensures falls { RankAtMost state.old 46 result state.new }
+    ensures refines { Computes state.old (method_of_string method units args.now) result state.new }
+    ensures bounded { RankAtMost state.old 46 result state.new }
 {
     let alloc = state.alloc();
     match method {
@@ -96,8 +96,8 @@ pub(crate) fn resume_this<'p>(
     args: &List<Value>,
     p: &Value,
 ) -> Result<Act<'p>, NoMemory>
-    ensures leads { Computes state.old (string_after (progress.This method args.now) p.now) result state.new }
-    ensures falls { RankAtMost state.old 46 result state.new }
+    ensures refines { Computes state.old (string_after (progress.This method args.now) p.now) result state.new }
+    ensures bounded { RankAtMost state.old 46 result state.new }
 {
     let alloc = state.alloc();
     let units = text_of(alloc, p)?;

@@ -23,8 +23,8 @@ pub(crate) fn convert_part<'p>(
     units: Text,
     args: &[Value],
 ) -> Result<Act<'p>, NoMemory>
-    ensures leads { Computes state.old (place_in_string search units args.now) result state.new }
-    ensures falls { RankAtMost state.old 46 result state.new }
+    ensures refines { Computes state.old (place_in_string search units args.now) result state.new }
+    ensures bounded { RankAtMost state.old 46 result state.new }
 {
     let alloc = state.alloc();
     let part = argument(alloc, args, 0)?;
@@ -45,9 +45,9 @@ fn convert_place<'p>(
     part: Text,
     position: Value,
 ) -> Result<Act<'p>, NoMemory>
-    ensures leads { Computes state.old (to_number position then λ n. give (place_of_part search units part n))
+    ensures refines { Computes state.old (to_number position then λ n. give (place_of_part search units part n))
         result state.new }
-    ensures falls { RankAtMost state.old 22 result state.new }
+    ensures bounded { RankAtMost state.old 22 result state.new }
 {
     let progress = Progress::String(StringProgress::Place {
         search,
@@ -65,8 +65,8 @@ pub(crate) fn resume_part<'p>(
     position: Value,
     p: &Value,
 ) -> Result<Act<'p>, NoMemory>
-    ensures leads { Computes state.old (string_after (progress.Part search units position) p.now) result state.new }
-    ensures falls { RankAtMost state.old 22 result state.new }
+    ensures refines { Computes state.old (string_after (progress.Part search units position) p.now) result state.new }
+    ensures bounded { RankAtMost state.old 22 result state.new }
 {
     let alloc = state.alloc();
     let part = text_of(alloc, p)?;
@@ -107,9 +107,9 @@ pub(crate) fn resume_place<'p>(
     part: &Text,
     p: &Value,
 ) -> Result<Act<'p>, NoMemory>
-    ensures leads { Computes state.old (string_after (progress.Place search units.now part.now) p.now) result
+    ensures refines { Computes state.old (string_after (progress.Place search units.now part.now) p.now) result
         state.new }
-    ensures falls { RankAtMost state.old 3 result state.new }
+    ensures bounded { RankAtMost state.old 3 result state.new }
 {
     match number_of(p) {
         Ok(position) => Ok(Act::Give(place_of_part(search, units, part, position)?)),

@@ -8,7 +8,7 @@ ghost use Rattle.jl_progress.specs.Strings.{string_after, unit_given};
 ghost use Rattle.jl_progress.specs.declared.string.StringProgress.TheVariants as progress;
 ghost use Rattle.jl_state.specs.Clauses.{Computes, RankAtMost};
 ghost use Rattle.jl_state.specs.Rank.{rank_act};
-ghost use Rattle.jl_state.specs.Rest.{Works};
+ghost use Rattle.jl_state.specs.Rest.{RefinesAlgorithm};
 ghost use Rattle.jl_state.specs.declared.state.State.{State as Machine};
 
 use crate::texts::text_of_units;
@@ -29,8 +29,8 @@ pub(crate) fn convert_position<'p>(
     units: Text,
     args: &[Value],
 ) -> Result<Act<'p>, NoMemory>
-    ensures leads { Computes state.old (unit_of_string form units args.now) result state.new }
-    ensures falls { RankAtMost state.old 22 result state.new }
+    ensures refines { Computes state.old (unit_of_string form units args.now) result state.new }
+    ensures bounded { RankAtMost state.old 22 result state.new }
 {
     let alloc = state.alloc();
     let position = argument(alloc, args, 0)?;
@@ -67,7 +67,7 @@ fn give_unit<'p>(
     units: &Text,
     position: Num,
 ) -> Result<Act<'p>, NoMemory>
-    ensures leads { IfOk result (λ act. (s : Machine) → Works s
+    ensures refines { IfOk result (λ act. (s : Machine) → RefinesAlgorithm s
         (give (unit_given form (unit_at_position units.now (integer_of position)))) s act) }
     ensures low { IfOk result (λ act. rank_act act ≤ 2) }
 {
@@ -82,8 +82,8 @@ pub(crate) fn resume_position<'p>(
     units: Text,
     p: &Value,
 ) -> Result<Act<'p>, NoMemory>
-    ensures leads { Computes state.old (string_after (progress.Position form units) p.now) result state.new }
-    ensures falls { RankAtMost state.old 3 result state.new }
+    ensures refines { Computes state.old (string_after (progress.Position form units) p.now) result state.new }
+    ensures bounded { RankAtMost state.old 3 result state.new }
 {
     let alloc = state.alloc();
     match number_of(p) {

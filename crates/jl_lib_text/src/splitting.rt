@@ -81,9 +81,9 @@ fn fill_with_pieces<'p>(
     limit: u32,
     pieces: &[Value],
 ) -> Result<Act<'p>, NoMemory>
-    ensures leads { Computes state.old (add_in_turns array 0 (take limit pieces.now) then λ _. give_object array)
+    ensures refines { Computes state.old (add_in_turns array 0 (take limit pieces.now) then λ _. give_object array)
         result state.new }
-    ensures falls { RankAtMost state.old 6 result state.new }
+    ensures bounded { RankAtMost state.old 6 result state.new }
 {
     let alloc = state.alloc();
     let values = first_values(alloc, pieces, limit as usize)?;
@@ -98,8 +98,8 @@ fn convert_separator<'p>(
     separator: Value,
     limit: u32,
 ) -> Result<Act<'p>, NoMemory>
-    ensures leads { Computes state.old (split_up_to units array separator limit) result state.new }
-    ensures falls { RankAtMost state.old 22 result state.new }
+    ensures refines { Computes state.old (split_up_to units array separator limit) result state.new }
+    ensures bounded { RankAtMost state.old 22 result state.new }
 {
     let alloc = state.alloc();
     if is_undefined(&separator) {
@@ -122,9 +122,9 @@ fn convert_limit<'p>(
     separator: Value,
     limit: Value,
 ) -> Result<Act<'p>, NoMemory>
-    ensures leads { Computes state.old (unless_undefined 4294967295 to_uint32 limit then split_up_to units array
+    ensures refines { Computes state.old (unless_undefined 4294967295 to_uint32 limit then split_up_to units array
         separator) result state.new }
-    ensures falls { RankAtMost state.old 46 result state.new }
+    ensures bounded { RankAtMost state.old 46 result state.new }
 {
     if is_undefined(&limit) {
         return convert_separator(state, units, array, separator, u32::MAX);
@@ -143,8 +143,8 @@ pub(crate) fn split<'p>(
     units: Text,
     args: &[Value],
 ) -> Result<Act<'p>, NoMemory>
-    ensures leads { Computes state.old (string_split units args.now) result state.new }
-    ensures falls { RankAtMost state.old 46 result state.new }
+    ensures refines { Computes state.old (string_split units args.now) result state.new }
+    ensures bounded { RankAtMost state.old 46 result state.new }
 {
     let alloc = state.alloc();
     let separator = argument(alloc, args, 0)?;
@@ -161,8 +161,8 @@ pub(crate) fn resume_limit<'p>(
     separator: Value,
     p: &Value,
 ) -> Result<Act<'p>, NoMemory>
-    ensures leads { Computes state.old (string_after (progress.Limit units array separator) p.now) result state.new }
-    ensures falls { RankAtMost state.old 22 result state.new }
+    ensures refines { Computes state.old (string_after (progress.Limit units array separator) p.now) result state.new }
+    ensures bounded { RankAtMost state.old 22 result state.new }
 {
     match number_of(p) {
         Ok(limit) => {
@@ -181,9 +181,9 @@ pub(crate) fn resume_separator<'p>(
     limit: u32,
     p: &Value,
 ) -> Result<Act<'p>, NoMemory>
-    ensures leads { Computes state.old (string_after (progress.Separator units.now array limit) p.now) result
+    ensures refines { Computes state.old (string_after (progress.Separator units.now array limit) p.now) result
         state.new }
-    ensures falls { RankAtMost state.old 6 result state.new }
+    ensures bounded { RankAtMost state.old 6 result state.new }
 {
     let alloc = state.alloc();
     let separator = text_of(alloc, p)?;

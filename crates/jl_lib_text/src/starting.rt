@@ -24,8 +24,8 @@ fn begin<'p>(
     builtin: StringBuiltin,
     call: &Invocation,
 ) -> Result<Act<'p>, NoMemory>
-    ensures leads { Computes state.old (string_algorithm builtin (call_of call.now)) result state.new }
-    ensures falls { RankAtMost state.old 76 result state.new }
+    ensures refines { Computes state.old (string_algorithm builtin (call_of call.now)) result state.new }
+    ensures bounded { RankAtMost state.old 76 result state.new }
 {
     match builtin {
         StringBuiltin::Constructor => string_constructor(state, call),
@@ -41,8 +41,8 @@ pub fn start<'p>(
     builtin: StringBuiltin,
     call: Invocation,
 ) -> Result<Act<'p>, NoMemory>
-    ensures leads { Computes state.old (string_algorithm builtin (call_of call)) result state.new }
-    ensures falls { RankAtMost state.old 400 result state.new }
+    ensures refines { Computes state.old (string_algorithm builtin (call_of call)) result state.new }
+    ensures bounded { RankAtMost state.old 400 result state.new }
 {
     begin(state, builtin, &call)
 }
@@ -53,8 +53,8 @@ pub fn resume<'p>(
     progress: StringProgress,
     v: Value,
 ) -> Result<Act<'p>, NoMemory>
-    ensures leads { Computes state.old (string_after progress v) result state.new }
-    ensures falls { RankAtMost state.old (rank_string progress + 2) result state.new }
+    ensures refines { Computes state.old (string_after progress v) result state.new }
+    ensures bounded { RankAtMost state.old (rank_string progress + 2) result state.new }
 {
     match progress {
         StringProgress::Given { by_new } => resume_given(state, by_new, &v),

@@ -16,11 +16,11 @@ use Rattle.jl_meaning.specs.Parts as parts
 use Rattle.jl_meaning.specs.forms.Literals.{end_array, new_array, put_element}
 use Rattle.jl_effects.specs.Running.{Ends}
 use Rattle.jl_store.specs.Answers.{fault_seen, finish_of}
-use Rattle.jl_store.specs.Comes.{Comes}
+use Rattle.jl_store.specs.BigStep.{BigStep}
 use Rattle.jl_store.specs.declared.answer.AlgorithmFault.{AlgorithmFault}
 use Rattle.jl_store.specs.declared.answer.Finished.{Finished}
 use Rattle.jl_store.specs.declared.answer.Finished.TheVariants as ended
-use Rattle.jl_state.specs.Rest.{Gives}
+use Rattle.jl_state.specs.Rest.{RefinesExpression}
 use Rattle.jl_state.specs.Trees.{items_left, plain, plain_forest}
 use Rattle.jl_state.specs.ValueFrames.{value_after}
 use Rattle.jl_state.specs.Words.{context_of, table_of}
@@ -66,33 +66,36 @@ module _ (s t : State) (a : Act) (rest : Remaining (Option Expr)) (array : ObjId
   left_from r index =
       array_from (table_of s.functions) (plain_forest (view_items (items_left r))) array index (context_of s.calls here)
 
-  pub array_ends : (n : ℕ) → next ≡ Length n → Gives s (end_array 0 array n) t a → Gives s (left_from rest k) t a
-  array_ends n is leads =
-      subst (λ p. Gives s p t a)
+  pub array_ends : (n : ℕ) → next ≡ Length n → RefinesExpression s (end_array 0 array n) t a
+      → RefinesExpression s (left_from rest k) t a
+  array_ends n is refines =
+      subst (λ p. RefinesExpression s p t a)
       (filled_from (table_of s.functions) (plain_forest (view_items (items_left rest))) tree.end array k n
-      (context_of s.calls here) (ap next_seen (sym is) ∙ seen)) leads
+      (context_of s.calls here) (ap next_seen (sym is) ∙ seen)) refines
 
   pub array_goes_on : (n : ℕ) (e : Bor Expr) (others : Remaining (Option Expr)) → next ≡ Element n e others
-      → Gives s (evaluate (table_of s.functions) (plain (view_expression e.now)) (context_of s.calls here)
+      → RefinesExpression s (evaluate (table_of s.functions) (plain (view_expression e.now)) (context_of s.calls here)
       >>= value_after (table_of s.functions) s.calls (waiting.Element array n others here)) t a
-      → Gives s (left_from rest k) t a
-  array_goes_on n e others is leads =
-      subst (λ p. Gives s p t a)
+      → RefinesExpression s (left_from rest k) t a
+  array_goes_on n e others is refines =
+      subst (λ p. RefinesExpression s p t a)
       (element_before (table_of s.functions) (plain_forest (view_items (items_left rest)))
       (plain_forest (view_items (items_left others))) (plain (view_expression e.now)) array k n
       (context_of s.calls here)
-      (ap next_seen (sym is) ∙ seen)) leads
+      (ap next_seen (sym is) ∙ seen)) refines
 
 -- an array literal begins with its elements
 pub array_begun : (s t : State) → IsStored s t → (array : ObjId) (items : List (Option Expr)) (here : Here) (u : State)
-    (a : Act) → Comes new_array s.store t.store (Ends (gives array))
-    → Gives t (array_from (table_of t.functions) (plain_forest (view_items items)) array 0 (context_of t.calls here)) u
+    (a : Act) → BigStep new_array s.store t.store (Ends (gives array))
+    → RefinesExpression t (array_from (table_of t.functions) (plain_forest (view_items items)) array 0
+    (context_of t.calls here)) u
     a
-    → Gives s (lift new_array >>= λ array. array_from (table_of s.functions) (plain_forest (view_items items)) array 0
+    → RefinesExpression s (lift new_array >>= λ array. array_from (table_of s.functions)
+    (plain_forest (view_items items)) array 0
     (context_of s.calls here)) u a
-array_begun s t stored array items here u a comes leads =
+array_begun s t stored array items here u a comes refines =
     gives_comes s t stored new_array array (filling s) u a comes
-    (subst (λ p. Gives t p u a) (ap (λ (w : State). filling w array) stored) leads)
+    (subst (λ p. RefinesExpression t p u a) (ap (λ (w : State). filling w array) stored) refines)
   where
     filling : State → ObjId → parts.Part (parts.Answer Value)
     filling w b = array_from (table_of w.functions) (plain_forest (view_items items)) b 0 (context_of w.calls here)
@@ -100,33 +103,36 @@ array_begun s t stored array items here u a comes leads =
 -- an element is put, and the others follow
 module _ (s t : State) (stored : IsStored s t) (array : ObjId) (index : ℕ) (v : Value)
     (rest : Remaining (Option Expr)) (here : Here) (answer : Finished Bool)
-    (comes : Comes (put_element array index v) s.store t.store (finish_of answer)) where
+    (comes : BigStep (put_element array index v) s.store t.store (finish_of answer)) where
   abbrev others : State → ℕ → parts.Part (parts.Answer Value)
   others u next =
       array_from (table_of u.functions) (plain_forest (view_items (items_left rest))) array next
       (context_of u.calls here)
 
-  puts : (end : Finished Bool) → answer ≡ end → Comes (put_element array index v) s.store t.store (finish_of end)
-  puts end is = subst (λ (f : Finished Bool). Comes (put_element array index v) s.store t.store (finish_of f)) is comes
+  puts : (end : Finished Bool) → answer ≡ end → BigStep (put_element array index v) s.store t.store (finish_of end)
+  puts end is = subst (λ (f : Finished Bool). BigStep (put_element array index v) s.store t.store
+      (finish_of f)) is comes
 
   pub element_put : (next : ℕ) (done : Bool) (u : State) (a : Act) → answer ≡ ended.Gives done → next ≡ index + 1
-      → Gives t (others t next) u a
-      → Gives s (value_after (table_of s.functions) s.calls (waiting.Element array index rest here) v) u a
-  element_put next done u a end is leads =
+      → RefinesExpression t (others t next) u a
+      → RefinesExpression s (value_after (table_of s.functions) s.calls (waiting.Element array index rest here) v) u a
+  element_put next done u a end is refines =
       gives_comes s t stored (put_element array index v) done (λ _. others s (index + 1)) u a
       (puts (ended.Gives done) end)
-      (subst (λ p. Gives t p u a) (ap (others t) is ∙ ap (λ w. others w (index + 1)) stored) leads)
+      (subst (λ p. RefinesExpression t p u a) (ap (others t) is ∙ ap (λ w. others w (index + 1)) stored) refines)
 
   pub element_thrown : (w : Value) → answer ≡ ended.Throws w
-      → Gives s (value_after (table_of s.functions) s.calls (waiting.Element array index rest here) v) t
+      → RefinesExpression s (value_after (table_of s.functions) s.calls (waiting.Element array index rest here) v) t
       (act.Complete (completion.Throw w))
   element_thrown w end =
       gives_thrown s t stored (put_element array index v) w (λ _. others s (index + 1)) (puts (ended.Throws w) end)
 
   pub element_failed : (f : AlgorithmFault) (g : Fault) → answer ≡ ended.Fails f → g ≡ fault_of (fault_seen f)
-      → Gives s (value_after (table_of s.functions) s.calls (waiting.Element array index rest here) v) t (act.Fault g)
+      → RefinesExpression s (value_after (table_of s.functions) s.calls (waiting.Element array index rest here) v) t
+      (act.Fault g)
   element_failed f g end is =
-      subst (λ h. Gives s (value_after (table_of s.functions) s.calls (waiting.Element array index rest here) v) t
+      subst (λ h. RefinesExpression s (value_after (table_of s.functions) s.calls
+      (waiting.Element array index rest here) v) t
       (act.Fault h)) (sym is)
       (gives_failed s t stored (put_element array index v) (fault_seen f) (λ _. others s (index + 1))
       (puts (ended.Fails f) end))

@@ -21,9 +21,9 @@ use Rattle.jl_meaning.specs.Store.{Store}
 use Rattle.jl_meaning.specs.forms.Literals.{function_literal, literal_of, literal_op, object_literal, of_array}
 use Rattle.jl_meaning.specs.forms.Literals.{of_function}
 use Rattle.jl_meaning.specs.forms.Literals.{literal, of_object}
-use Rattle.jl_store.specs.Comes.{Comes}
+use Rattle.jl_store.specs.BigStep.{BigStep}
 use Rattle.jl_store.specs.Plain.{plain_function}
-use Rattle.jl_state.specs.Rest.{Gives}
+use Rattle.jl_state.specs.Rest.{RefinesExpression}
 use Rattle.jl_state.specs.Trees.{plain}
 use Rattle.jl_state.specs.declared.act.Act.{Act}
 use Rattle.jl_state.specs.declared.act.Act.TheVariants as act
@@ -35,13 +35,13 @@ abbrev outcome : Option Op → Value → Act
 outcome None v = act.Fault Misuse
 outcome (Some o) v = act.Give v
 
-ended : (s : State) (v : Value) (o : Option Op) → Gives s (note_or_misuse performs 0 v o) s (outcome o v)
+ended : (s : State) (v : Value) (o : Option Op) → RefinesExpression s (note_or_misuse performs 0 v o) s (outcome o v)
 ended s v None = record { is = λ kept told. refl }
 ended s v (Some o) = record { is = λ kept told. refl }
 
 -- the value is given where the operation is of the form's kind
 noted : (s : State) (form : Option Op → Option Op) (v : Value) (o : Option Op) → form (literal_op s.store.heap v) ≡ o
-    → Gives s (literal_of form 0 v) s (outcome o v)
+    → RefinesExpression s (literal_of form 0 v) s (outcome o v)
 unfolding literal_of
 noted s form v o is =
     gives_looked s (λ store. note_or_misuse performs 0 v (form (literal_op store.heap v)))
@@ -51,7 +51,8 @@ abbrev literal_at : Store → ObjId → Option Op
 literal_at store id = object_literal id (object_at store.heap id.0).class (object_at store.heap id.0).inner
 
 seen : (s : State) (store : Store) (form : Option Op → Option Op) (id : ObjId) (o : Option Op) → s.store ≡ store
-    → form (literal_at store id) ≡ o → Gives s (literal_of form 0 (value.Obj id)) s (outcome o (value.Obj id))
+    → form (literal_at store id) ≡ o → RefinesExpression s (literal_of form 0 (value.Obj id)) s
+    (outcome o (value.Obj id))
 seen s store form id o same is =
     noted s form (value.Obj id) o (ap (λ (t : Store). form (literal_at t id)) same ∙ is)
 
@@ -67,13 +68,15 @@ no_array class.Function i id differ = no_array_function id (script_number i)
 no_array k i id differ = refl
 
 pub array_given : (s : State) (store : Store) (id : ObjId) (k : Class) → k ≡ (object_at store.heap id.0).class
-    → k ≡ class.Array → s.store ≡ store → Gives s (literal_of of_array 0 (value.Obj id)) s (act.Give (value.Obj id))
+    → k ≡ class.Array → s.store ≡ store → RefinesExpression s (literal_of of_array 0 (value.Obj id)) s
+    (act.Give (value.Obj id))
 array_given s store id k of_it is same =
     seen s store of_array id (Some (op.ArrayLiteral id)) same
     (ap (λ c. of_array (object_literal id c (object_at store.heap id.0).inner)) (sym of_it ∙ is))
 
 pub no_array_given : (s : State) (store : Store) (id : ObjId) (k : Class) → k ≡ (object_at store.heap id.0).class
-    → (k ≡ class.Array → ⊥) → s.store ≡ store → Gives s (literal_of of_array 0 (value.Obj id)) s (act.Fault Misuse)
+    → (k ≡ class.Array → ⊥) → s.store ≡ store
+    → RefinesExpression s (literal_of of_array 0 (value.Obj id)) s (act.Fault Misuse)
 no_array_given s store id k of_it differ same =
     seen s store of_array id None same
     (no_array (object_at store.heap id.0).class (object_at store.heap id.0).inner id (λ is. differ (of_it ∙ is)))
@@ -92,7 +95,7 @@ is_object k i id no_array no_function = refl
 
 pub object_given : (s : State) (store : Store) (id : ObjId) (k : Class) → k ≡ (object_at store.heap id.0).class
     → (k ≡ class.Array → ⊥) → (k ≡ class.Function → ⊥) → s.store ≡ store
-    → Gives s (literal_of of_object 0 (value.Obj id)) s (act.Give (value.Obj id))
+    → RefinesExpression s (literal_of of_object 0 (value.Obj id)) s (act.Give (value.Obj id))
 object_given s store id k of_it no_array no_function same =
     seen s store of_object id (Some (op.ObjectLiteral id)) same
     (is_object (object_at store.heap id.0).class (object_at store.heap id.0).inner id (λ is. no_array (of_it ∙ is))
@@ -100,14 +103,14 @@ object_given s store id k of_it no_array no_function same =
 
 pub array_is_no_object : (s : State) (store : Store) (id : ObjId) (k : Class)
     → k ≡ (object_at store.heap id.0).class → k ≡ class.Array → s.store ≡ store
-    → Gives s (literal_of of_object 0 (value.Obj id)) s (act.Fault Misuse)
+    → RefinesExpression s (literal_of of_object 0 (value.Obj id)) s (act.Fault Misuse)
 array_is_no_object s store id k of_it is same =
     seen s store of_object id None same
     (ap (λ c. of_object (object_literal id c (object_at store.heap id.0).inner)) (sym of_it ∙ is))
 
 pub function_is_no_object : (s : State) (store : Store) (id : ObjId) (k : Class)
     → k ≡ (object_at store.heap id.0).class → k ≡ class.Function → s.store ≡ store
-    → Gives s (literal_of of_object 0 (value.Obj id)) s (act.Fault Misuse)
+    → RefinesExpression s (literal_of of_object 0 (value.Obj id)) s (act.Fault Misuse)
 function_is_no_object s store id k of_it is same =
     seen s store of_object id None same
     (ap (λ c. of_object (object_literal id c (object_at store.heap id.0).inner)) (sym of_it ∙ is)
@@ -124,7 +127,7 @@ no_function k i id differ = refl
 pub function_given : (s : State) (store : Store) (id : ObjId) (k : Class) (n : ℕ)
     → k ≡ (object_at store.heap id.0).class → k ≡ class.Function
     → script_number (object_at store.heap id.0).inner ≡ Some n → s.store ≡ store
-    → Gives s (literal_of of_function 0 (value.Obj id)) s (act.Give (value.Obj id))
+    → RefinesExpression s (literal_of of_function 0 (value.Obj id)) s (act.Give (value.Obj id))
 function_given s store id k n of_it is number same =
     seen s store of_function id (Some (op.FunctionLiteral id n)) same
     (ap (λ c. of_function (object_literal id c (object_at store.heap id.0).inner)) (sym of_it ∙ is)
@@ -132,7 +135,7 @@ function_given s store id k n of_it is number same =
 
 pub no_function_given : (s : State) (store : Store) (id : ObjId) (k : Class)
     → k ≡ (object_at store.heap id.0).class → (k ≡ class.Function → ⊥) → s.store ≡ store
-    → Gives s (literal_of of_function 0 (value.Obj id)) s (act.Fault Misuse)
+    → RefinesExpression s (literal_of of_function 0 (value.Obj id)) s (act.Fault Misuse)
 no_function_given s store id k of_it differ same =
     seen s store of_function id None same
     (no_function (object_at store.heap id.0).class (object_at store.heap id.0).inner id (λ is. differ (of_it ∙ is)))
@@ -140,7 +143,7 @@ no_function_given s store id k of_it differ same =
 pub no_script_given : (s : State) (store : Store) (id : ObjId) (k : Class)
     → k ≡ (object_at store.heap id.0).class → k ≡ class.Function
     → script_number (object_at store.heap id.0).inner ≡ None → s.store ≡ store
-    → Gives s (literal_of of_function 0 (value.Obj id)) s (act.Fault Misuse)
+    → RefinesExpression s (literal_of of_function 0 (value.Obj id)) s (act.Fault Misuse)
 no_script_given s store id k of_it is none same =
     seen s store of_function id None same
     (ap (λ c. of_function (object_literal id c (object_at store.heap id.0).inner)) (sym of_it ∙ is)
@@ -148,31 +151,34 @@ no_script_given s store id k of_it is none same =
 
 -- primitive values
 
-pub number_given : (s : State) (n : Number) → Gives s (literal performs 0 (value.Num n)) s (act.Give (value.Num n))
+pub number_given : (s : State) (n : Number)
+    → RefinesExpression s (literal performs 0 (value.Num n)) s (act.Give (value.Num n))
 unfolding literal
 number_given s n = record { is = λ kept told. refl }
 
-pub text_given : (s : State) (x : List ℕ) → Gives s (literal performs 0 (value.Text x)) s (act.Give (value.Text x))
+pub text_given : (s : State) (x : List ℕ)
+    → RefinesExpression s (literal performs 0 (value.Text x)) s (act.Give (value.Text x))
 unfolding literal
 text_given s x = record { is = λ kept told. refl }
 
-pub truth_given : (s : State) (b : Bool) → Gives s (literal performs 0 (value.Bool b)) s (act.Give (value.Bool b))
+pub truth_given : (s : State) (b : Bool) → RefinesExpression s (literal performs 0 (value.Bool b)) s
+    (act.Give (value.Bool b))
 unfolding literal
 truth_given s b = record { is = λ kept told. refl }
 
-pub null_given : (s : State) → Gives s (literal performs 0 value.Null) s (act.Give value.Null)
+pub null_given : (s : State) → RefinesExpression s (literal performs 0 value.Null) s (act.Give value.Null)
 unfolding literal
 null_given s = record { is = λ kept told. refl }
 
 -- a function expression makes its function, which is given
 pub function_made : (s t : State) → IsStored s t → (strict : Bool) (env : ℕ) (f : Function) (object : ObjId) (a : Act)
-    → Comes (make_function_expression strict env (plain_function f)) s.store t.store (Ends (gives object))
-    → Gives t (literal_of of_function 0 (value.Obj object)) t a
-    → Gives s (lift (make_function_expression strict env (plain (view_function f)))
+    → BigStep (make_function_expression strict env (plain_function f)) s.store t.store (Ends (gives object))
+    → RefinesExpression t (literal_of of_function 0 (value.Obj object)) t a
+    → RefinesExpression s (lift (make_function_expression strict env (plain (view_function f)))
     >>= λ object. literal_of of_function 0 (value.Obj object)) t a
-function_made s t stored strict env f object a comes leads =
+function_made s t stored strict env f object a comes refines =
     gives_comes s t stored (make_function_expression strict env (plain_function f)) object
-    (λ object. literal_of of_function 0 (value.Obj object)) t a comes leads
+    (λ object. literal_of of_function 0 (value.Obj object)) t a comes refines
 
 pub ruleset primitives = (number_given, text_given, truth_given, null_given)
 

@@ -7,8 +7,8 @@ ghost use Rattle.jl_meaning.specs.Parts.{lift, ◌>>=◌ as ◌then◌};
 ghost use Rattle.jl_meaning.specs.Parts as parts;
 ghost use Rattle.jl_meaning.specs.forms.Literals.{end_array, index_name, new_array, put_element};
 ghost use Rattle.jl_store.specs.Answers.{fault_seen, finish_of};
-ghost use Rattle.jl_store.specs.Comes.{Comes};
-ghost use Rattle.jl_state.specs.Rest.{Gives};
+ghost use Rattle.jl_store.specs.BigStep.{BigStep};
+ghost use Rattle.jl_state.specs.Rest.{RefinesExpression};
 ghost use Rattle.jl_state.specs.Trees.{items_left, plain_forest};
 ghost use Rattle.jl_state.specs.Words.{context_of, table_of};
 ghost use Rattle.jl_literal.specs.Filling.{array_from};
@@ -37,9 +37,9 @@ pub fn begin_array<'p>(
     items: &'p List<Option<Expr>>,
     here: Here,
 ) -> Result<Act<'p>, NoMemory>
-    ensures leads { Evaluates state.old (lift new_array then λ array. array_from (table_of state.old.functions)
+    ensures refines { Evaluates state.old (lift new_array then λ array. array_from (table_of state.old.functions)
         (plain_forest (view_items items.now)) array 0 (context_of state.old.calls here)) result state.new }
-    ensures falls { RankAtMost state.old 12 result state.new }
+    ensures bounded { RankAtMost state.old 12 result state.new }
 {
     let array = state.store.new_array()?;
     let rest = Remaining {
@@ -58,8 +58,8 @@ pub fn step_element<'p>(
     here: Here,
     v: Value,
 ) -> Result<Act<'p>, NoMemory>
-    ensures leads { Resumes state.old (ValueFrame.Element array index rest.entry here) v result state.new }
-    ensures falls { RankAtMost state.old 12 result state.new }
+    ensures refines { Resumes state.old (ValueFrame.Element array index rest.entry here) v result state.new }
+    ensures bounded { RankAtMost state.old 12 result state.new }
 {
     let alloc = state.alloc();
     let next = next_index(index)?;
@@ -79,9 +79,9 @@ fn fill<'p>(
     rest: Remaining<'p, Option<Expr>>,
     here: Here,
 ) -> Result<Act<'p>, NoMemory>
-    ensures leads { Evaluates state.old (array_from (table_of state.old.functions) (plain_forest (view_items
+    ensures refines { Evaluates state.old (array_from (table_of state.old.functions) (plain_forest (view_items
         (items_left rest.entry))) array index (context_of state.old.calls here)) result state.new }
-    ensures falls { RankAtMost state.old 12 result state.new }
+    ensures bounded { RankAtMost state.old 12 result state.new }
 {
     match next_element(index, rest)? {
         Next::Length(length) => end_array(state, array, length),
@@ -135,7 +135,7 @@ fn put_element(
     index: usize,
     v: Value,
 ) -> Result<Finished<bool>, NoMemory>
-    ensures { IfOk result (λ end. Comes (put_element array index v) store.old store.new (finish_of end)) }
+    ensures { IfOk result (λ end. BigStep (put_element array index v) store.old store.new (finish_of end)) }
 {
     let name = index_name(alloc, index)?;
     let change = plain_change(v);
@@ -146,8 +146,8 @@ fn put_element(
 /// An array that has been filled is given its length, and then it is given.
 #[tactic(auto, using(crate::proofs::Lengths::primitive_length, jl_store::proofs::PropertyChanges::one_kind_value))]
 fn end_array<'p>(state: &mut State<'p>, array: ObjId, length: usize) -> Result<Act<'p>, NoMemory>
-    ensures leads { Evaluates state.old (end_array 0 array length) result state.new }
-    ensures falls { RankAtMost state.old 3 result state.new }
+    ensures refines { Evaluates state.old (end_array 0 array length) result state.new }
+    ensures bounded { RankAtMost state.old 3 result state.new }
 {
     let alloc = state.alloc();
     let name = word(alloc, "length")?;

@@ -8,7 +8,7 @@ ghost use Rattle.jl_meaning.specs.Parts.{lift, ◌>>=◌ as ◌then◌};
 ghost use Rattle.jl_meaning.specs.forms.Literals.{literal, literal_of, of_array, of_function, of_object};
 ghost use Rattle.jl_state.specs.Clauses.{Evaluates};
 ghost use Rattle.jl_state.specs.Rank.{rank_act};
-ghost use Rattle.jl_state.specs.Rest.{Gives};
+ghost use Rattle.jl_state.specs.Rest.{RefinesExpression};
 ghost use Rattle.jl_state.specs.Trees.{plain};
 ghost use Rattle.jl_state.specs.declared.state.State.{State as Machine};
 
@@ -23,7 +23,7 @@ use std::alloc::Global;
 /// A literal of a number (7.8.3).
 #[tactic(auto, using(crate::proofs::Made::primitives))]
 pub fn give_number<'p>(number: Num) -> Act<'p>
-    ensures leads { (s : Machine) → Gives s (literal performs 0 (value.Num number)) s result }
+    ensures refines { (s : Machine) → RefinesExpression s (literal performs 0 (value.Num number)) s result }
 {
     Act::Give(Value::Num(number))
 }
@@ -31,7 +31,7 @@ pub fn give_number<'p>(number: Num) -> Act<'p>
 /// A literal of a string (7.8.4).
 #[tactic(auto, using(crate::proofs::Made::primitives))]
 pub fn give_text<'p>(alloc: Global, text: &Text) -> Result<Act<'p>, NoMemory>
-    ensures leads { IfOk result (λ act. (s : Machine) → Gives s (literal performs 0 (value.Text text.now)) s act) }
+    ensures refines { IfOk result (λ act. (s : Machine) → RefinesExpression s (literal performs 0 (value.Text text.now)) s act) }
 {
     Ok(Act::Give(Value::Text(text.share(alloc)?)))
 }
@@ -39,7 +39,7 @@ pub fn give_text<'p>(alloc: Global, text: &Text) -> Result<Act<'p>, NoMemory>
 /// `true` or `false` (7.8.2).
 #[tactic(auto, using(crate::proofs::Made::primitives))]
 pub fn give_boolean<'p>(truth: bool) -> Act<'p>
-    ensures leads { (s : Machine) → Gives s (literal performs 0 (value.Bool truth)) s result }
+    ensures refines { (s : Machine) → RefinesExpression s (literal performs 0 (value.Bool truth)) s result }
 {
     Act::Give(Value::Bool(truth))
 }
@@ -47,7 +47,7 @@ pub fn give_boolean<'p>(truth: bool) -> Act<'p>
 /// `null` (7.8.1).
 #[tactic(auto, using(crate::proofs::Made::primitives))]
 pub fn give_null<'p>() -> Act<'p>
-    ensures leads { (s : Machine) → Gives s (literal performs 0 value.Null) s result }
+    ensures refines { (s : Machine) → RefinesExpression s (literal performs 0 value.Null) s result }
 {
     Act::Give(Value::Null)
 }
@@ -58,7 +58,7 @@ pub fn begin_function<'p>(
     function: &'p Function,
     here: Here,
 ) -> Result<Act<'p>, NoMemory>
-    ensures leads { Evaluates state.old (lift (make_function_expression here.strict here.env (plain (view_function
+    ensures refines { Evaluates state.old (lift (make_function_expression here.strict here.env (plain (view_function
         function.now))) then λ object. literal_of of_function 0 (value.Obj object)) result state.new }
     ensures left { IfOk result (λ _. state.new.left ≤ state.old.left) }
 {
@@ -71,7 +71,7 @@ pub fn begin_function<'p>(
 /// What an array literal has made is given. It is an array.
 #[tactic(auto, using(crate::proofs::Made::arrays))]
 pub(crate) fn give_array<'p>(store: &Store, object: ObjId) -> Act<'p>
-    ensures leads { (s : Machine) → s.store ≡ store.now → Gives s (literal_of of_array 0 (value.Obj object)) s result }
+    ensures refines { (s : Machine) → s.store ≡ store.now → RefinesExpression s (literal_of of_array 0 (value.Obj object)) s result }
     ensures low { rank_act result ≤ 2 }
 {
     match store.class_of(object) {
@@ -83,7 +83,7 @@ pub(crate) fn give_array<'p>(store: &Store, object: ObjId) -> Act<'p>
 /// What an object literal has made is given. It is neither an array nor a function.
 #[tactic(auto, using(crate::proofs::Made::objects))]
 pub(crate) fn give_object<'p>(store: &Store, object: ObjId) -> Act<'p>
-    ensures leads { (s : Machine) → s.store ≡ store.now → Gives s (literal_of of_object 0 (value.Obj object)) s result }
+    ensures refines { (s : Machine) → s.store ≡ store.now → RefinesExpression s (literal_of of_object 0 (value.Obj object)) s result }
     ensures low { rank_act result ≤ 2 }
 {
     match store.class_of(object) {
@@ -96,8 +96,8 @@ pub(crate) fn give_object<'p>(store: &Store, object: ObjId) -> Act<'p>
 /// What a function expression has made is given. It is a function of the script.
 #[tactic(auto, using(crate::proofs::Made::functions))]
 fn give_function<'p>(store: &Store, object: ObjId) -> Act<'p>
-    ensures leads { (s : Machine) → s.store ≡ store.now
-        → Gives s (literal_of of_function 0 (value.Obj object)) s result }
+    ensures refines { (s : Machine) → s.store ≡ store.now
+        → RefinesExpression s (literal_of of_function 0 (value.Obj object)) s result }
 {
     match store.class_of(object) {
         Class::Function => match script_number(store.inner_of(object)) {

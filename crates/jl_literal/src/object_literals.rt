@@ -15,7 +15,7 @@ use crate::literals::give_object;
 use jl_algorithm::{define_own_property, leaf_value, plain_change};
 use jl_ast::{Entry, Expr};
 use jl_heap::Change;
-use jl_state::{Act, Here, Remaining, State, ValueFrame, WrittenBy, split_first};
+use jl_state::{Act, AfterDefine, Here, Remaining, State, ValueFrame, split_first};
 use jl_text::{List, NoMemory, Text};
 use jl_value::{ObjId, Value};
 
@@ -25,10 +25,10 @@ pub fn begin_object<'p>(
     entries: &'p List<Entry>,
     here: Here,
 ) -> Result<Act<'p>, NoMemory>
-    ensures leads { Evaluates state.old (lift new_plain_object then λ object. object_from (table_of
+    ensures refines { Evaluates state.old (lift new_plain_object then λ object. object_from (table_of
         state.old.functions) (plain_forest (view_entries entries.now)) object (context_of state.old.calls here))
         result state.new }
-    ensures falls { RankAtMost state.old (60 * length entries.now + 62) result state.new }
+    ensures bounded { RankAtMost state.old (60 * length entries.now + 62) result state.new }
 {
     let object = state.store.new_plain_object()?;
     let rest = Remaining {
@@ -48,8 +48,8 @@ pub fn step_entry_value<'p>(
     here: Here,
     v: Value,
 ) -> Result<Act<'p>, NoMemory>
-    ensures leads { Resumes state.old (ValueFrame.EntryValue object key.entry rest.entry here) v result state.new }
-    ensures falls { RankAtMost state.old (60 * length (items_left rest.entry) + 112) result state.new }
+    ensures refines { Resumes state.old (ValueFrame.EntryValue object key.entry rest.entry here) v result state.new }
+    ensures bounded { RankAtMost state.old (60 * length (items_left rest.entry) + 112) result state.new }
 {
     let change = plain_change(v);
     define_entry(state, object, key, change, rest, here)
@@ -63,8 +63,8 @@ pub fn step_entries<'p>(
     here: Here,
     v: Value,
 ) -> Result<Act<'p>, NoMemory>
-    ensures leads { Resumes state.old (ValueFrame.Entries object rest.entry here) v result state.new }
-    ensures falls { RankAtMost state.old (60 * length (items_left rest.entry) + 62) result state.new }
+    ensures refines { Resumes state.old (ValueFrame.Entries object rest.entry here) v result state.new }
+    ensures bounded { RankAtMost state.old (60 * length (items_left rest.entry) + 62) result state.new }
 {
     equip(state, object, rest, here)
 }
@@ -76,9 +76,9 @@ fn equip<'p>(
     rest: Remaining<'p, Entry>,
     here: Here,
 ) -> Result<Act<'p>, NoMemory>
-    ensures leads { Evaluates state.old (object_from (table_of state.old.functions) (plain_forest (view_entries
+    ensures refines { Evaluates state.old (object_from (table_of state.old.functions) (plain_forest (view_entries
         (items_left rest.entry))) object (context_of state.old.calls here)) result state.new }
-    ensures falls { RankAtMost state.old (60 * length (items_left rest.entry) + 62) result state.new }
+    ensures bounded { RankAtMost state.old (60 * length (items_left rest.entry) + 62) result state.new }
 {
     match split_first(rest) {
         None => Ok(give_object(&state.store, object)),
@@ -95,10 +95,10 @@ fn equip_one<'p>(
     rest: Remaining<'p, Entry>,
     here: Here,
 ) -> Result<Act<'p>, NoMemory>
-    ensures leads { Evaluates state.old (equip_one (table_of state.old.functions) (plain (view_entry entry.now))
+    ensures refines { Evaluates state.old (equip_one (table_of state.old.functions) (plain (view_entry entry.now))
         object (context_of state.old.calls here) then λ _. object_from (table_of state.old.functions) (plain_forest
         (view_entries (items_left rest.entry))) object (context_of state.old.calls here)) result state.new }
-    ensures falls { RankAtMost state.old (60 * length (items_left rest.entry) + 112) result state.new }
+    ensures bounded { RankAtMost state.old (60 * length (items_left rest.entry) + 112) result state.new }
 {
     match entry {
         Entry::Value(key, e) => equip_value(state, object, &key.text, e, rest, here),
@@ -125,11 +125,11 @@ fn equip_value<'p>(
     rest: Remaining<'p, Entry>,
     here: Here,
 ) -> Result<Act<'p>, NoMemory>
-    ensures leads { Evaluates state.old (evaluate (table_of state.old.functions) (plain (view_expression e.now))
+    ensures refines { Evaluates state.old (evaluate (table_of state.old.functions) (plain (view_expression e.now))
         (context_of state.old.calls here) then λ v. (define_entry object key.now (plain_change v) then λ _. object_from
         (table_of state.old.functions) (plain_forest (view_entries (items_left rest.entry))) object (context_of
         state.old.calls here))) result state.new }
-    ensures falls { RankAtMost state.old (60 * length (items_left rest.entry) + 112) result state.new }
+    ensures bounded { RankAtMost state.old (60 * length (items_left rest.entry) + 112) result state.new }
 {
     let found = leaf_value(&*state, e, here)?;
     match found {
@@ -160,13 +160,13 @@ fn define_entry<'p>(
     here: Here,
 ) -> Result<Act<'p>, NoMemory>
     requires { IsOneKind change }
-    ensures leads { Evaluates state.old (define_entry object key.now change then λ _. object_from (table_of
+    ensures refines { Evaluates state.old (define_entry object key.now change then λ _. object_from (table_of
         state.old.functions) (plain_forest (view_entries (items_left rest.entry))) object (context_of
         state.old.calls here)) result state.new }
-    ensures falls { RankAtMost state.old (60 * length (items_left rest.entry) + 112) result state.new }
+    ensures bounded { RankAtMost state.old (60 * length (items_left rest.entry) + 112) result state.new }
 {
     state.push_value(ValueFrame::Entries { object, rest, here })?;
-    define_own_property(state, object, key, change, WrittenBy::Literal)
+    define_own_property(state, object, key, change, AfterDefine::Literal)
 }
 
 /// A getter or a setter is asked for (11.1.5).

@@ -4,7 +4,7 @@ ghost use Rattle.jl_ast.specs.View.{view_expression};
 ghost use Rattle.jl_meaning.specs.Expressions.{evaluate};
 ghost use Rattle.jl_state.specs.Clauses.{RankAtMost, Resumes};
 ghost use Rattle.jl_state.specs.Rank.{rank_act};
-ghost use Rattle.jl_state.specs.Rest.{Gives};
+ghost use Rattle.jl_state.specs.Rest.{RefinesExpression};
 ghost use Rattle.jl_state.specs.Trees.{plain};
 ghost use Rattle.jl_state.specs.Words.{context_of, table_of};
 ghost use Rattle.jl_state.specs.declared.state.State.{State as Machine};
@@ -26,8 +26,8 @@ pub fn step_and<'p>(
     here: Here,
     v: Value,
 ) -> Result<Act<'p>, NoMemory>
-    ensures leads { Resumes state.old (ValueFrame.And right.entry here) v result state.new }
-    ensures falls { RankAtMost state.old 5 result state.new }
+    ensures refines { Resumes state.old (ValueFrame.And right.entry here) v result state.new }
+    ensures bounded { RankAtMost state.old 5 result state.new }
 {
     if to_boolean(&v) {
         Ok(value_of(right, here))
@@ -44,8 +44,8 @@ pub fn step_or<'p>(
     here: Here,
     v: Value,
 ) -> Result<Act<'p>, NoMemory>
-    ensures leads { Resumes state.old (ValueFrame.Or right.entry here) v result state.new }
-    ensures falls { RankAtMost state.old 5 result state.new }
+    ensures refines { Resumes state.old (ValueFrame.Or right.entry here) v result state.new }
+    ensures bounded { RankAtMost state.old 5 result state.new }
 {
     if to_boolean(&v) {
         Ok(Act::Give(v))
@@ -63,8 +63,8 @@ pub fn step_conditional<'p>(
     here: Here,
     v: Value,
 ) -> Result<Act<'p>, NoMemory>
-    ensures leads { Resumes state.old (ValueFrame.Conditional first.entry second.entry here) v result state.new }
-    ensures falls { RankAtMost state.old 5 result state.new }
+    ensures refines { Resumes state.old (ValueFrame.Conditional first.entry second.entry here) v result state.new }
+    ensures bounded { RankAtMost state.old 5 result state.new }
 {
     if to_boolean(&v) {
         Ok(value_of(first, here))
@@ -80,16 +80,16 @@ pub fn step_comma<'p>(
     here: Here,
     v: Value,
 ) -> Result<Act<'p>, NoMemory>
-    ensures leads { Resumes state.old (ValueFrame.Comma right.entry here) v result state.new }
-    ensures falls { RankAtMost state.old 5 result state.new }
+    ensures refines { Resumes state.old (ValueFrame.Comma right.entry here) v result state.new }
+    ensures bounded { RankAtMost state.old 5 result state.new }
 {
     Ok(value_of(right, here))
 }
 
 /// An operator with one operand goes on with its value (11.4).
 pub fn step_operand<'p>(state: &mut State<'p>, op: UnKind, v: Value) -> Result<Act<'p>, NoMemory>
-    ensures leads { Resumes state.old (ValueFrame.Operand op) v result state.new }
-    ensures falls { RankAtMost state.old 52 result state.new }
+    ensures refines { Resumes state.old (ValueFrame.Operand op) v result state.new }
+    ensures bounded { RankAtMost state.old 52 result state.new }
 {
     operate_on(state, false, OpId(0), op, v)
 }
@@ -102,8 +102,8 @@ pub fn step_left_operand<'p>(
     here: Here,
     v: Value,
 ) -> Result<Act<'p>, NoMemory>
-    ensures leads { Resumes state.old (ValueFrame.LeftOperand op right.entry here) v result state.new }
-    ensures falls { RankAtMost state.old 56 result state.new }
+    ensures refines { Resumes state.old (ValueFrame.LeftOperand op right.entry here) v result state.new }
+    ensures bounded { RankAtMost state.old 56 result state.new }
 {
     let found = leaf_value(&*state, right, here)?;
     match found {
@@ -122,15 +122,15 @@ pub fn step_right_operand<'p>(
     left: Value,
     v: Value,
 ) -> Result<Act<'p>, NoMemory>
-    ensures leads { Resumes state.old (ValueFrame.RightOperand op left) v result state.new }
-    ensures falls { RankAtMost state.old 52 result state.new }
+    ensures refines { Resumes state.old (ValueFrame.RightOperand op left) v result state.new }
+    ensures bounded { RankAtMost state.old 52 result state.new }
 {
     operate(state, false, OpId(0), op, left, v)
 }
 
 /// An expression is evaluated, and its value is given on.
 fn value_of<'p>(e: &'p Expr, here: Here) -> Act<'p>
-    ensures leads { (s : Machine) → Gives s
+    ensures refines { (s : Machine) → RefinesExpression s
         (evaluate (table_of s.functions) (plain (view_expression e.now)) (context_of s.calls here)) s result }
     ensures low { rank_act result ≤ 1 }
 {

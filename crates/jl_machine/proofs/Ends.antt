@@ -11,16 +11,16 @@ use Rattle.jl_op.specs.KindSets.{is_member}
 use Rattle.jl_op.specs.Operations.{Operation}
 use Rattle.jl_op.specs.declared.kind_set.KindSet.{KindSet}
 use Rattle.jl_effects.specs.Running.{state_of, steps_taken, Over, Spent}
-use Rattle.jl_meaning.specs.Mean.{Run as Comes-to}
+use Rattle.jl_meaning.specs.Mean.{Run as BigStep-to}
 use Rattle.jl_quiet.specs.QuietMean.{quiet_mean}
-use Rattle.jl_state.specs.Rest.{rest_after, run_state, Completes}
+use Rattle.jl_state.specs.Rest.{behaviour_after, run_state, RefinesStatement}
 use Rattle.jl_state.specs.Trees.{plain}
 use Rattle.jl_state.specs.Words.{context_of, table_of}
 use Rattle.jl_state.specs.declared.act.Act.{Act}
 use Rattle.jl_state.specs.declared.frame.Here.{Here}
 use Rattle.jl_state.specs.declared.state.State.{State}
 use Rattle.jl_store.specs.Plain.{code_in}
-use Rattle.jl_machine.specs.inner.Going.{kept_by, over, Goes, GoesTo, Heard}
+use Rattle.jl_machine.specs.inner.Going.{kept_by, over, StepRefines, Reaches, HasObserved}
 use Rattle.jl_machine.specs.Runs.{hooked_mean, steps_of, IsRun}
 use Rattle.jl_machine.specs.inner.Starts.{program_body, IsStart}
 use Rattle.jl_machine.specs.declared.ending.Next.TheVariants as next
@@ -28,7 +28,7 @@ use Rattle.jl_machine.specs.declared.ending.Run.{Run}
 use Rattle.jl_machine.proofs.Meanings.{begins, strict_plain}
 
 -- hooks tell of no more operations than a run takes steps, so that they can be counted
-taken_of : (n : ℕ) (r : Comes-to) → steps_taken n r ≤ n
+taken_of : (n : ℕ) (r : BigStep-to) → steps_taken n r ≤ n
 taken_of n (Over e left w) = omega arith
 taken_of n (Spent w) = omega arith
 
@@ -51,7 +51,7 @@ module _ {O : Type 0} (stands_for : O → List Operation → Type 0) (before : L
   }
 
   is_over : (end : Ending) (t : State) (told : List Operation) (o : O) (count : ℕ)
-      → Heard stands_for before told o count
+      → HasObserved stands_for before told o count
       → length (state_of (over end t.left (run_state told t))).hooks < 2 ^ 64
       → IsRun stands_for before budget (over end t.left (run_state told t))
       (answer_of end t count (steps_of end budget t.left)) o
@@ -88,21 +88,21 @@ module _ {O : Type 0} (stands_for : O → List Operation → Type 0) (before : L
     told = heard.heard;
   }
 
-  is_run : (kinds : KindSet) (end : Ending) (t : State) (o : O) (count : ℕ) (r : Comes-to)
-      → GoesTo stands_for kinds before o count t (next.Over end) r → length (state_of r).hooks < 2 ^ 64
+  is_run : (kinds : KindSet) (end : Ending) (t : State) (o : O) (count : ℕ) (r : BigStep-to)
+      → Reaches stands_for kinds before o count t (next.Over end) r → length (state_of r).hooks < 2 ^ 64
       → IsRun stands_for before budget r (answer_of end t count (steps_of end budget t.left)) o
   is_run kinds end t o count r goes few =
       subst (λ x. IsRun stands_for before budget x (answer_of end t count (steps_of end budget t.left)) o) goes.same
       (is_over end t goes.told o count goes.heard
-      (subst (λ (x : Comes-to). length (state_of x).hooks < 2 ^ 64) (sym goes.same) few))
+      (subst (λ (x : BigStep-to). length (state_of x).hooks < 2 ^ 64) (sym goes.same) few))
 
   -- a run that goes on from an act to its end
-  ran : (kinds : KindSet) (end : Ending) (s t : State) (a : Act) (o o' : O) (count : ℕ) (r : Comes-to)
-      → Goes stands_for kinds o 0 s a o' count t (next.Over end) → rest_after (kept_by kinds) [] s a ≡ r
+  ran : (kinds : KindSet) (end : Ending) (s t : State) (a : Act) (o o' : O) (count : ℕ) (r : BigStep-to)
+      → StepRefines stands_for kinds o 0 s a o' count t (next.Over end) → behaviour_after (kept_by kinds) [] s a ≡ r
       → stands_for o before → length (state_of r).hooks < 2 ^ 64
       → IsRun stands_for before budget r (answer_of end t count (steps_of end budget t.left)) o'
   ran kinds end s t a o o' count r goes same stands few =
-      let nothing : Heard stands_for before [] o 0 = record {
+      let nothing : HasObserved stands_for before [] o 0 = record {
         heard = subst (stands_for o) (sym (append-nil before)) stands;
         counted = λ few. refl;
       } in
@@ -112,14 +112,14 @@ module _ {O : Type 0} (stands_for : O → List Operation → Type 0) (before : L
   -- a run of a program
   pub runs : (kinds : KindSet) (p : Program Span) (strict : Bool) (s t u : State) (a : Act) (end : Ending) (o o' : O)
       (count steps : ℕ) → IsStart p budget s → strict ≡ strict_in false p.body
-      → Completes s (program_body (table_of s.functions) (plain p.body) (code_in 0 strict)
+      → RefinesStatement s (program_body (table_of s.functions) (plain p.body) (code_in 0 strict)
       (context_of s.calls (record { env = 0; strict = strict }))) t a
-      → Goes stands_for kinds o 0 t a o' count u (next.Over end) → steps ≡ steps_of end budget u.left
+      → StepRefines stands_for kinds o 0 t a o' count u (next.Over end) → steps ≡ steps_of end budget u.left
       → stands_for o before → length (state_of (hooked_mean (is_member kinds) p budget)).hooks < 2 ^ 64
       → IsRun stands_for before budget (hooked_mean (is_member kinds) p budget) (answer_of end u count steps) o'
-  runs kinds p strict s t u a end o o' count steps start is leads goes counted stands few =
+  runs kinds p strict s t u a end o o' count steps start is refines goes counted stands few =
       let here_of : Bool → Here = λ b. record { env = 0; strict = b } in
-      let same = leads.is (kept_by kinds) []
+      let same = refines.is (kept_by kinds) []
       ∙ begins (is_member kinds) p budget (here_of strict) s start (ap here_of (is ∙ sym (strict_plain p.body))) in
       subst (λ n. IsRun stands_for before budget (hooked_mean (is_member kinds) p budget) (answer_of end u count n) o')
       (sym counted)

@@ -28,7 +28,8 @@ use Rattle.jl_meaning.specs.Statements.{execute_all}
 use Rattle.jl_meaning.specs.Store.{Store}
 use Rattle.jl_meaning.specs.forms.Functions.{run_body}
 use Rattle.jl_meaning.specs.Jobs.{job}
-use Rattle.jl_state.specs.Rest.{as_completion, rest, rest_of, run_in, Completes, Completion-given}
+use Rattle.jl_state.specs.Rest.{as_completion, continuation, continuation_of, run_in, RefinesStatement}
+use Rattle.jl_state.specs.Rest.{Completion-given}
 use Rattle.jl_state.specs.Trees.{plain, plain_forest}
 use Rattle.jl_state.specs.Words.{context_of, table_of}
 use Rattle.jl_state.specs.declared.act.Act.{Act}
@@ -39,7 +40,7 @@ use Rattle.jl_state.specs.declared.frame.Here.{Here}
 use Rattle.jl_state.specs.declared.state.State.{State}
 use Rattle.jl_state.proofs.Stores.{completes_comes, completes_thrown}
 use Rattle.jl_store.specs.Answers.{ends_with}
-use Rattle.jl_store.specs.Comes.{Comes}
+use Rattle.jl_store.specs.BigStep.{BigStep}
 use Rattle.jl_store.specs.Plain.{code_in, plain_code}
 use Rattle.jl_store.specs.declared.answer.Answer.{Answer as Answered}
 use Rattle.jl_store.specs.declared.answer.Answer.TheVariants.{Gives, Throws}
@@ -55,29 +56,31 @@ statements_of table b c = ap (λ (t : Code). run_body table t c) (sym (body_plai
 
 pub declared_then : (s t u : State) (b : Body) (bound : Context) (here : Here) (a : Act)
     (answer : Answered (Unit {0})) (x : Unit {0}) → t ≡ record s { store = t.store }
-    → Comes (declare_program (plain_code b) bound) s.store t.store (ends_with answer) → answer ≡ Gives x
-    → Completes t (execute_all (table_of s.functions) (plain_forest (view_statements (out-Body b).statements))
+    → BigStep (declare_program (plain_code b) bound) s.store t.store (ends_with answer) → answer ≡ Gives x
+    → RefinesStatement t (execute_all (table_of s.functions) (plain_forest (view_statements (out-Body b).statements))
     (context_of s.calls here)) u a
-    → Completes s (program_body (table_of s.functions) (plain_code b) bound (context_of s.calls here)) u a
-declared_then s t u b bound here a answer x stored comes is leads =
+    → RefinesStatement s (program_body (table_of s.functions) (plain_code b) bound (context_of s.calls here)) u a
+declared_then s t u b bound here a answer x stored comes is refines =
     completes_comes s t stored (declare_program (plain_code b) bound) x
     (λ _. run_body (table_of s.functions) (plain_code b) (context_of s.calls here)) u a
     (record {
-      leads = (subst (λ d. Comes (declare_program (plain_code b) bound) s.store t.store (ends_with d)) is comes).leads;
+      refines = (subst (λ d. BigStep (declare_program (plain_code b) bound) s.store t.store
+          (ends_with d)) is comes).refines;
     })
-    (subst (λ p. Completes t p u a) (statements_of (table_of s.functions) b (context_of s.calls here)) leads)
+    (subst (λ p. RefinesStatement t p u a) (statements_of (table_of s.functions) b (context_of s.calls here)) refines)
 
 pub declared_thrown : (s t : State) (b : Body) (bound : Context) (here : Here) (answer : Answered (Unit {0}))
     (v : Value)
     → t ≡ record s { store = t.store }
-    → Comes (declare_program (plain_code b) bound) s.store t.store (ends_with answer) → answer ≡ Throws v
-    → Completes s (program_body (table_of s.functions) (plain_code b) bound (context_of s.calls here)) t
+    → BigStep (declare_program (plain_code b) bound) s.store t.store (ends_with answer) → answer ≡ Throws v
+    → RefinesStatement s (program_body (table_of s.functions) (plain_code b) bound (context_of s.calls here)) t
     (act.Complete (completion.Throw v))
 declared_thrown s t b bound here answer v stored comes is =
     completes_thrown s t stored (declare_program (plain_code b) bound) v
     (λ _. run_body (table_of s.functions) (plain_code b) (context_of s.calls here))
     (record {
-      leads = (subst (λ d. Comes (declare_program (plain_code b) bound) s.store t.store (ends_with d)) is comes).leads;
+      refines = (subst (λ d. BigStep (declare_program (plain_code b) bound) s.store t.store
+          (ends_with d)) is comes).refines;
     })
 
 -- strictness doesn't depend on places
@@ -87,7 +90,7 @@ strict_plain (body strict fs l) = refl
 -- the whole of what is to be done, to the end of the program
 abbrev whole : FunctionTable → List Call → List Frame → Code → Context → Here → Part Completion
 whole table calls frames t bound here =
-    and_then (as_completion (program_body table t bound (context_of calls here))) (rest table calls frames)
+    and_then (as_completion (program_body table t bound (context_of calls here))) (continuation table calls frames)
 
 -- a program of this code
 abbrev program_of : Code → Program ℕ
@@ -110,7 +113,7 @@ module _ (kept : Operation → Bool) (t : Code) where
   exit = note performs 1 (λ heap. op.ScriptExit) >>= λ _. normal
 
   abbrev after_declaring : Answer (Unit {0}) → Part Completion
-  after_declaring b = and_then (as_completion (on_given (λ _. statements) b)) (rest table [] [])
+  after_declaring b = and_then (as_completion (on_given (λ _. statements) b)) (continuation table [] [])
 
   abbrev after_entering : Answer (Unit {0}) → Part Completion
   after_entering b = on_given (λ _. note performs 0 (λ heap. op.ScriptEnter)
@@ -118,13 +121,13 @@ module _ (kept : Operation → Bool) (t : Code) where
 
   parted : whole table [] [] t (code_in 0 (strict_in false t)) (global_here t) ≡ and_then declaring after_declaring
   parted =
-      ap (λ q. and_then q (rest table [] []))
+      ap (λ q. and_then q (continuation table [] []))
       (and_then-assoc declaring (on_given (λ _. statements)) (λ how. End (Completion-given how)))
-      ∙ and_then-assoc declaring (λ b. as_completion (on_given (λ _. statements) b)) (rest table [] [])
+      ∙ and_then-assoc declaring (λ b. as_completion (on_given (λ _. statements) b)) (continuation table [] [])
 
-  ends : and_then (as_completion statements) (rest table [] []) ≡ and_then (run_program (program_of t)) end_of
+  ends : and_then (as_completion statements) (continuation table [] []) ≡ and_then (run_program (program_of t)) end_of
   ends =
-      and_then-assoc statements (λ how. End (Completion-given how)) (rest table [] [])
+      and_then-assoc statements (λ how. End (Completion-given how)) (continuation table [] [])
       ∙ sym (and_then-assoc statements (if_normal exit) end_of)
 
   each : (b : Answer (Unit {0})) (n : ℕ) (w : RunState Store Operation)
@@ -169,7 +172,7 @@ pub begins : (chosen : Kinds) (p : Program Span) (budget : ℕ) (here : Here) (s
     → here ≡ global_here (plain p.body)
     → run_in (is_kept chosen) [] s
     (and_then (as_completion (program_body (table_of s.functions) (plain p.body) (code_in 0 here.strict)
-    (context_of s.calls here))) (rest_of s))
+    (context_of s.calls here))) (continuation_of s))
     ≡ hooked_mean chosen p budget
 unfolding hooked_mean
 begins chosen p budget here s start is =

@@ -22,8 +22,8 @@ pub(crate) fn step_algorithm<'p>(
     frame: AlgorithmFrame,
     v: Value,
 ) -> Result<Act<'p>, NoMemory>
-    ensures leads { ResumesAlgorithm state.old frame v result state.new }
-    ensures falls { RankAtMost state.old (rank_algorithm frame + 2) result state.new }
+    ensures refines { ResumesAlgorithm state.old frame v result state.new }
+    ensures bounded { RankAtMost state.old (rank_algorithm frame + 2) result state.new }
 {
     match frame {
         AlgorithmFrame::Method {

@@ -23,9 +23,9 @@ pub(crate) fn begin_builtin<'p>(
     builtin: Builtin,
     call: Invocation,
 ) -> Result<Act<'p>, NoMemory>
-    ensures leads { Computes state.old (builtin_algorithm (names_of (table_of state.old.functions)) builtin (call_of
+    ensures refines { Computes state.old (builtin_algorithm (names_of (table_of state.old.functions)) builtin (call_of
         call)) result state.new }
-    ensures falls { RankAtMost state.old 400 result state.new }
+    ensures bounded { RankAtMost state.old 400 result state.new }
 {
     match builtin {
         Builtin::Object(builtin) => start_object(state, builtin, call),
@@ -48,8 +48,8 @@ pub(crate) fn step_progress<'p>(
     progress: Progress,
     v: Value,
 ) -> Result<Act<'p>, NoMemory>
-    ensures leads { Computes state.old (progress_after progress v) result state.new }
-    ensures falls { RankAtMost state.old (rank_progress progress + 2) result state.new }
+    ensures refines { Computes state.old (progress_after progress v) result state.new }
+    ensures bounded { RankAtMost state.old (rank_progress progress + 2) result state.new }
 {
     match progress {
         Progress::Object(progress) => resume_object(state, progress, v),

@@ -16,8 +16,8 @@ use jl_value::{Value, share};
 
 /// A call takes a step, and its function is entered.
 pub(crate) fn begin_call<'p>(state: &mut State<'p>, call: Invocation) -> Result<Act<'p>, NoMemory>
-    ensures leads { Evaluates state.old (begin_call CallOf (call_of call)) result state.new }
-    ensures falls { RankAtMost state.old 1 result state.new }
+    ensures refines { Evaluates state.old (begin_call CallOf (call_of call)) result state.new }
+    ensures bounded { RankAtMost state.old 1 result state.new }
 {
     if !state.spend() {
         return Ok(Act::Spent);
@@ -27,9 +27,9 @@ pub(crate) fn begin_call<'p>(state: &mut State<'p>, call: Invocation) -> Result<
 
 /// The function of a call is entered, by what the callee is inside. An object that is no function gives undefined.
 fn begin_inside<'p>(state: &mut State<'p>, call: Invocation) -> Result<Act<'p>, NoMemory>
-    ensures leads { Evaluates state.old (call_inside (table_of state.old.functions) state.old.store.heap (call_of
+    ensures refines { Evaluates state.old (call_inside (table_of state.old.functions) state.old.store.heap (call_of
         call) (object_at state.old.store.heap call.callee.0).inner) result state.new }
-    ensures falls { RankAtMost state.old 400 result state.new }
+    ensures bounded { RankAtMost state.old 400 result state.new }
 {
     let alloc = state.alloc();
     match state.store.inner_of(call.callee) {

@@ -3,13 +3,13 @@ ghost use Rattle.std.specs.Prelude.{◌+◌, ◌≡◌, true, IfOk};
 ghost use Rattle.jl_state.specs.Handlers.{handles, is_abrupt};
 ghost use Rattle.jl_state.specs.Rank.{rank};
 ghost use Rattle.jl_state.specs.Rest.{Completion-given, Nothing, Value-given};
-ghost use Rattle.jl_machine.specs.inner.Going.{Sinks};
-ghost use Rattle.jl_machine.specs.inner.Handed.{Continues, EndsProgram, Hands, InnermostHandles};
+ghost use Rattle.jl_machine.specs.inner.Going.{NextRankedBelow};
+ghost use Rattle.jl_machine.specs.inner.Handed.{Continues, EndsProgram, Delivers, InnermostHandles};
 ghost use Rattle.jl_state.specs.Clauses.{RankAtMost};
 
 use crate::algorithms::step_algorithm;
 use crate::ending::Next;
-use jl_call::step_told;
+use jl_call::resume_emit;
 use jl_expression::step_value;
 use jl_function::step_body;
 use jl_state::{Act, Frame, State, is_abrupt};
@@ -25,7 +25,7 @@ fn continue_with_value<'p>(
     v: Value,
 ) -> Result<Act<'p>, NoMemory>
     ensures continues { IfOk result (λ act. Continues state.old frame.entry (Value-given v) state.new act) }
-    ensures falls { RankAtMost state.old (rank frame.entry + 2) result state.new }
+    ensures bounded { RankAtMost state.old (rank frame.entry + 2) result state.new }
 {
     match frame {
         Frame::Value(frame) => step_value(state, frame, v),
@@ -56,7 +56,7 @@ fn continue_with_completion<'p>(
 ) -> Result<Act<'p>, NoMemory>
     requires { is_abrupt how ≡ true → handles frame how ≡ true }
     ensures continues { IfOk result (λ act. Continues state.old frame.entry (Completion-given how) state.new act) }
-    ensures falls { RankAtMost state.old (rank frame.entry + 2) result state.new }
+    ensures bounded { RankAtMost state.old (rank frame.entry + 2) result state.new }
 {
     match frame {
         Frame::Value(frame) => {
@@ -88,10 +88,10 @@ fn continue_with_completion<'p>(
 #[tactic(auto, using(crate::proofs::Continuing::told_continues, crate::proofs::Continuing::given_continues, crate::proofs::Continuing::misused))]
 fn continue_by_itself<'p>(state: &mut State<'p>, frame: Frame<'p>) -> Result<Act<'p>, NoMemory>
     ensures continues { IfOk result (λ act. Continues state.old frame.entry Nothing state.new act) }
-    ensures falls { RankAtMost state.old (rank frame.entry + 1) result state.new }
+    ensures bounded { RankAtMost state.old (rank frame.entry + 1) result state.new }
 {
     match frame {
-        Frame::Told(frame) => step_told(state, frame.into_inner()),
+        Frame::Told(frame) => resume_emit(state, frame.into_inner()),
         Frame::Give(v) => Ok(Act::Give(v)),
         Frame::Value(frame) => {
             drop(frame);
@@ -116,8 +116,8 @@ fn continue_by_itself<'p>(state: &mut State<'p>, frame: Frame<'p>) -> Result<Act
 /// The innermost frame is handed a value.
 #[tactic(auto, using(crate::proofs::Continuing::handed, crate::proofs::Continuing::handed_nobody, crate::proofs::Ranks::falls_popped))]
 pub(crate) fn give_value<'p>(state: &mut State<'p>, v: Value) -> Result<Act<'p>, NoMemory>
-    ensures hands { IfOk result (λ act. Hands state.old (Value-given v) state.new (Next.Act act)) }
-    ensures falls { RankAtMost state.old 2 result state.new }
+    ensures hands { IfOk result (λ act. Delivers state.old (Value-given v) state.new (Next.Act act)) }
+    ensures bounded { RankAtMost state.old 2 result state.new }
 {
     match state.stack.pop() {
         None => Ok(Act::Fault(Fault::Misuse)),
@@ -129,8 +129,8 @@ pub(crate) fn give_value<'p>(state: &mut State<'p>, v: Value) -> Result<Act<'p>,
 #[tactic(auto, using(crate::proofs::Continuing::handed, crate::proofs::Continuing::ended, crate::proofs::Ranks::falls_popped))]
 fn give_innermost<'p>(state: &mut State<'p>, how: Completion) -> Result<Next<'p>, NoMemory>
     requires { is_abrupt how ≡ true → InnermostHandles how state.old.stack }
-    ensures hands { IfOk result (λ n. Hands state.old (Completion-given how) state.new n) }
-    ensures falls { IfOk result (λ n. Sinks state.old 2 state.new n) }
+    ensures hands { IfOk result (λ n. Delivers state.old (Completion-given how) state.new n) }
+    ensures bounded { IfOk result (λ n. NextRankedBelow state.old 2 state.new n) }
 {
     match state.stack.pop() {
         None => Ok(Next::Over(end_program(how))),
@@ -142,8 +142,8 @@ fn give_innermost<'p>(state: &mut State<'p>, how: Completion) -> Result<Next<'p>
 /// it, the program has completed so.
 fn give_handler<'p>(state: &mut State<'p>, how: Completion) -> Result<Next<'p>, NoMemory>
     requires { is_abrupt how ≡ true }
-    ensures hands { IfOk result (λ n. Hands state.old (Completion-given how) state.new n) }
-    ensures falls { IfOk result (λ n. Sinks state.old 2 state.new n) }
+    ensures hands { IfOk result (λ n. Delivers state.old (Completion-given how) state.new n) }
+    ensures bounded { IfOk result (λ n. NextRankedBelow state.old 2 state.new n) }
 {
     match state.unwind(&how) {
         None => Ok(Next::Over(end_program(how))),
@@ -157,8 +157,8 @@ pub(crate) fn give_completion<'p>(
     state: &mut State<'p>,
     how: Completion,
 ) -> Result<Next<'p>, NoMemory>
-    ensures hands { IfOk result (λ n. Hands state.old (Completion-given how) state.new n) }
-    ensures falls { IfOk result (λ n. Sinks state.old 2 state.new n) }
+    ensures hands { IfOk result (λ n. Delivers state.old (Completion-given how) state.new n) }
+    ensures bounded { IfOk result (λ n. NextRankedBelow state.old 2 state.new n) }
 {
     if is_abrupt(&how) {
         return give_handler(state, how);
@@ -169,8 +169,8 @@ pub(crate) fn give_completion<'p>(
 /// The innermost frame goes on.
 #[tactic(auto, using(crate::proofs::Continuing::handed, crate::proofs::Continuing::handed_nobody, crate::proofs::Ranks::falls_popped))]
 pub(crate) fn resume<'p>(state: &mut State<'p>) -> Result<Act<'p>, NoMemory>
-    ensures hands { IfOk result (λ act. Hands state.old Nothing state.new (Next.Act act)) }
-    ensures falls { RankAtMost state.old 1 result state.new }
+    ensures hands { IfOk result (λ act. Delivers state.old Nothing state.new (Next.Act act)) }
+    ensures bounded { RankAtMost state.old 1 result state.new }
 {
     match state.stack.pop() {
         None => Ok(Act::Fault(Fault::Misuse)),

@@ -23,7 +23,7 @@ use Rattle.jl_meaning.specs.Noting.{Noting}
 use Rattle.jl_meaning.specs.Parts.{give, lift, ◌>>=◌, Algorithm, Answer, Part}
 use Rattle.jl_meaning.specs.forms.Members.{assign_member, get_member, member_name, put_member, update_member}
 use Rattle.jl_meaning.specs.forms.Operators.{update}
-use Rattle.jl_state.specs.Rest.{Gives, Works}
+use Rattle.jl_state.specs.Rest.{RefinesExpression, RefinesAlgorithm}
 use Rattle.jl_state.specs.Steps.{ValueWaits}
 use Rattle.jl_state.specs.Trees.{plain}
 use Rattle.jl_state.specs.ValueFrames.{key_after}
@@ -31,21 +31,23 @@ use Rattle.jl_state.specs.Words.{context_of, table_of}
 use Rattle.jl_state.specs.declared.act.Act.{Act}
 use Rattle.jl_state.specs.declared.frame.Here.{Here}
 use Rattle.jl_state.specs.declared.state.State.{State}
-use Rattle.jl_state.specs.declared.value_frame.KeyFor.{KeyFor}
-use Rattle.jl_state.specs.declared.value_frame.KeyFor.TheVariants as key_for
+use Rattle.jl_state.specs.declared.value_frame.MemberUse.{MemberUse}
+use Rattle.jl_state.specs.declared.value_frame.MemberUse.TheVariants as key_for
 use Rattle.jl_state.specs.declared.value_frame.ValueFrame.TheVariants as waiting
 use Rattle.jl_meaning.proofs.Binds.{bind_assoc, bind_same, lift_bind}
 
 -- a key is converted for a frame
-pub converts_key : (s t u : State) (purpose : KeyFor) (key : Value) (a : Act) → ValueWaits s (waiting.Key purpose) t
-    → Works t (to_primitive string_hint key) u a
-    → Gives s (lift (to_string key) >>= key_after (table_of s.functions) s.calls purpose) u a
+pub converts_key : (s t u : State) (boxed purpose : MemberUse) (key : Value) (a : Act) → boxed ≡ purpose
+    → ValueWaits s (waiting.Key boxed) t → RefinesAlgorithm t (to_primitive string_hint key) u a
+    → RefinesExpression s (lift (to_string key) >>= key_after (table_of s.functions) s.calls purpose) u a
 unfolding to_string
-converts_key s t u purpose key a waits leads =
-    subst (λ q. Gives s q u a) (sym same) (waits.works (to_primitive string_hint key) u a leads)
+converts_key s t u boxed purpose key a is waits refines =
+    subst (λ (p : MemberUse). RefinesExpression s (lift (to_string key) >>= key_after (table_of s.functions) s.calls
+    p) u a) is
+    (subst (λ q. RefinesExpression s q u a) (sym same) (waits.works (to_primitive string_hint key) u a refines))
   where
     after : Name → Part (Answer Value)
-    after x = key_after (table_of s.functions) s.calls purpose x
+    after x = key_after (table_of s.functions) s.calls boxed x
 
     same : (lift (to_string key) >>= after) ≡ (lift (to_primitive string_hint key) >>= λ p. after (text_of_value p))
     same =
@@ -54,26 +56,26 @@ converts_key s t u purpose key a waits leads =
 
 -- what has no members
 pub refuses : (s : State) (message : Name) (q : Algorithm Name) (k : Name → Part (Answer Value)) (t : State) (a : Act)
-    → Works s (throw_error TypeError message) t a
-    → Gives s (lift (throw_error TypeError message >>= λ (_ : Unit {0}). q) >>= k) t a
+    → RefinesAlgorithm s (throw_error TypeError message) t a
+    → RefinesExpression s (lift (throw_error TypeError message >>= λ (_ : Unit {0}). q) >>= k) t a
 unfolding throw_error
-refuses s message q k t a leads = record { is = leads.is }
+refuses s message q k t a refines = record { is = refines.is }
 
 pub refuses_undefined : (s : State) (base key : Value) (k : Name → Part (Answer Value)) (t : State) (a : Act)
-    → base ≡ value.Undefined → Works s (throw_error TypeError (codes "no property of undefined")) t a
-    → Gives s (lift (member_name base key) >>= k) t a
+    → base ≡ value.Undefined → RefinesAlgorithm s (throw_error TypeError (codes "no property of undefined")) t a
+    → RefinesExpression s (lift (member_name base key) >>= k) t a
 unfolding check_object_coercible
-refuses_undefined s base key k t a is leads =
-    subst (λ (b : Value). Gives s (lift (member_name b key) >>= k) t a) (sym is)
-    (refuses s (codes "no property of undefined") (to_string key) k t a leads)
+refuses_undefined s base key k t a is refines =
+    subst (λ (b : Value). RefinesExpression s (lift (member_name b key) >>= k) t a) (sym is)
+    (refuses s (codes "no property of undefined") (to_string key) k t a refines)
 
 pub refuses_null : (s : State) (base key : Value) (k : Name → Part (Answer Value)) (t : State) (a : Act)
-    → base ≡ value.Null → Works s (throw_error TypeError (codes "no property of null")) t a
-    → Gives s (lift (member_name base key) >>= k) t a
+    → base ≡ value.Null → RefinesAlgorithm s (throw_error TypeError (codes "no property of null")) t a
+    → RefinesExpression s (lift (member_name base key) >>= k) t a
 unfolding check_object_coercible
-refuses_null s base key k t a is leads =
-    subst (λ (b : Value). Gives s (lift (member_name b key) >>= k) t a) (sym is)
-    (refuses s (codes "no property of null") (to_string key) k t a leads)
+refuses_null s base key k t a is refines =
+    subst (λ (b : Value). RefinesExpression s (lift (member_name b key) >>= k) t a) (sym is)
+    (refuses s (codes "no property of null") (to_string key) k t a refines)
 
 -- what has some
 abbrev pub HasMembers : Value → Type 0
@@ -88,10 +90,11 @@ coerces v (inr (inr (inl e))) = ap check_object_coercible e.1
 coerces v (inr (inr (inr e))) = ap check_object_coercible e.1
 
 pub names : (s : State) (base key : Value) (k : Name → Part (Answer Value)) (t : State) (a : Act) → HasMembers base
-    → Gives s (lift (to_string key) >>= k) t a → Gives s (lift (member_name base key) >>= k) t a
-names s base key k t a has leads =
-    subst (λ (p : Algorithm (Unit {0})). Gives s (lift (p >>= λ _. to_string key) >>= k) t a) (sym (coerces base has))
-    leads
+    → RefinesExpression s (lift (to_string key) >>= k) t a → RefinesExpression s (lift (member_name base key) >>= k) t a
+names s base key k t a has refines =
+    subst (λ (p : Algorithm (Unit {0})). RefinesExpression s (lift (p >>= λ _. to_string key) >>= k) t a)
+    (sym (coerces base has))
+    refines
 
 -- a name that is there at once
 
@@ -125,9 +128,10 @@ pub text_at_once : (base : Value) (x y : Name) → check_object_coercible base �
 text_at_once base x y has same = name_at_once base (value.Text x) y has (key_at_once (value.Text x) y refl same)
 
 pub named_at_once : (s : State) (base key : Value) (x : Name) (k : Name → Part (Answer Value)) (t : State) (a : Act)
-    → member_name base key ≡ give x → Gives s (k x) t a → Gives s (lift (member_name base key) >>= k) t a
-named_at_once s base key x k t a is leads =
-    subst (λ (p : Algorithm Name). Gives s (lift p >>= k) t a) (sym is) leads
+    → member_name base key ≡ give x → RefinesExpression s (k x) t a
+    → RefinesExpression s (lift (member_name base key) >>= k) t a
+named_at_once s base key x k t a is refines =
+    subst (λ (p : Algorithm Name). RefinesExpression s (lift p >>= k) t a) (sym is) refines
 
 -- what is done with the name
 
@@ -136,16 +140,16 @@ value_in s e here = evaluate (table_of s.functions) (plain (view_expression e.no
 
 pub assigns_member : (s : State) (base held key : Value) (o : Option BinOp) (e : Bor (Box Expr Global)) (here : Here)
     (t : State) (a : Act) → held ≡ base
-    → Gives s (lift (member_name base key)
+    → RefinesExpression s (lift (member_name base key)
     >>= key_after (table_of s.functions) s.calls (key_for.Assign held o e here)) t a
-    → Gives s (assign_member 0 (context_of s.calls here) base key o (value_in s e here)) t a
-assigns_member s base held key o e here t a same leads =
-    by o (subst (λ (b : Value). Gives s (lift (member_name base key)
-    >>= key_after (table_of s.functions) s.calls (key_for.Assign b o e here)) t a) same leads)
+    → RefinesExpression s (assign_member 0 (context_of s.calls here) base key o (value_in s e here)) t a
+assigns_member s base held key o e here t a same refines =
+    by o (subst (λ (b : Value). RefinesExpression s (lift (member_name base key)
+    >>= key_after (table_of s.functions) s.calls (key_for.Assign b o e here)) t a) same refines)
   where
-    by : (p : Option BinOp) → Gives s (lift (member_name base key)
+    by : (p : Option BinOp) → RefinesExpression s (lift (member_name base key)
         >>= key_after (table_of s.functions) s.calls (key_for.Assign base p e here)) t a
-        → Gives s (assign_member 0 (context_of s.calls here) base key p (value_in s e here)) t a
+        → RefinesExpression s (assign_member 0 (context_of s.calls here) base key p (value_in s e here)) t a
     by None l = l
     by (Some p) l = l
 

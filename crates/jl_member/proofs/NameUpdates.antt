@@ -15,7 +15,7 @@ use Rattle.jl_meaning.specs.References.{put_value}
 use Rattle.jl_meaning.specs.forms.Operators.{update}
 use Rattle.jl_store.specs.LookUps.{reference_seen}
 use Rattle.jl_store.specs.declared.names.Reference.{Reference as Resolved}
-use Rattle.jl_state.specs.Rest.{Gives, Works}
+use Rattle.jl_state.specs.Rest.{RefinesExpression, RefinesAlgorithm}
 use Rattle.jl_state.specs.Steps.{ValueWaits}
 use Rattle.jl_state.specs.ValueFrames.{value_after}
 use Rattle.jl_state.specs.Words.{table_of}
@@ -41,38 +41,41 @@ module _ (s : State) (x : Bor Name) (r : Resolved) (up prefix strict : Bool) whe
 
   pub converts_name : (t u : State) (held v : Value) (a : Act) → held ≡ v
       → ValueWaits s (waiting.UpdateNamePrimitive x r up prefix strict held) t
-      → Works t (to_primitive number_hint v) u a
-      → Gives s (value_after (table_of s.functions) s.calls (waiting.UpdateName x r up prefix strict) v) u a
-  converts_name t u held v a same waits leads =
+      → RefinesAlgorithm t (to_primitive number_hint v) u a
+      → RefinesExpression s (value_after (table_of s.functions) s.calls (waiting.UpdateName x r up prefix strict) v) u a
+  converts_name t u held v a same waits refines =
       performed s (λ store. (record { 0 = 0 }, op.Read x.now (seen_of store.heap v)))
       (update performs 1 (update_kind up) v >>= after_update) u a
       (update_waits s t u performs 1 (update_kind up) v after_update
       (waiting.UpdateNamePrimitive x r up prefix strict held) a
       (λ p. ap (λ (h : Value). value_after (table_of s.functions) s.calls
-      (waiting.UpdateNamePrimitive x r up prefix strict h) p) same) waits leads)
+      (waiting.UpdateNamePrimitive x r up prefix strict h) p) same) waits refines)
 
   -- a number is a primitive value
   pub converts_number : (u : State) (held v : Value) (n : Number) (a : Act) → v ≡ value.Num n → held ≡ value.Num n
-      → Gives s (value_after (table_of s.functions) s.calls (waiting.UpdateNamePrimitive x r up prefix strict held) v)
-      u a → Gives s (value_after (table_of s.functions) s.calls (waiting.UpdateName x r up prefix strict) v) u a
-  converts_number u held v n a is same leads =
+      → RefinesExpression s (value_after (table_of s.functions) s.calls
+      (waiting.UpdateNamePrimitive x r up prefix strict held) v)
+      u a → RefinesExpression s (value_after (table_of s.functions) s.calls
+      (waiting.UpdateName x r up prefix strict) v) u a
+  converts_number u held v n a is same refines =
       performed s (λ store. (record { 0 = 0 }, op.Read x.now (seen_of store.heap v)))
       (update performs 1 (update_kind up) v >>= after_update) u a
       (update_number s performs 1 (update_kind up) v n after_update u a is
-      (subst (λ (h : Value). Gives s (value_after (table_of s.functions) s.calls
-      (waiting.UpdateNamePrimitive x r up prefix strict h) v) u a) (same ∙ sym is) leads))
+      (subst (λ (h : Value). RefinesExpression s (value_after (table_of s.functions) s.calls
+      (waiting.UpdateNamePrimitive x r up prefix strict h) v) u a) (same ∙ sym is) refines))
 
   pub writes_next : (held p : Value) (found : Option (Number × Number)) (n m : Number) (given : Value) (t : State)
       (a : Act) → found ≡ next_of (update_kind up) p → found ≡ Some (n, m)
       → given ≡ (if prefix then value.Num m else value.Num n)
-      → Works s (put_value strict x.now (value.Num m) (reference_seen r) >>= λ _. give given) t a
-      → Gives s (value_after (table_of s.functions) s.calls (waiting.UpdateNamePrimitive x r up prefix strict held) p)
+      → RefinesAlgorithm s (put_value strict x.now (value.Num m) (reference_seen r) >>= λ _. give given) t a
+      → RefinesExpression s (value_after (table_of s.functions) s.calls
+      (waiting.UpdateNamePrimitive x r up prefix strict held) p)
       t a
-  writes_next held p found n m given t a same is chosen leads =
+  writes_next held p found n m given t a same is chosen refines =
       finds_next s (update_kind up) p found n m (after_next held) t a same is
       (performed s (λ store. (
         record { 0 = 1 },
         op.Unary (update_kind up) (seen_of store.heap held) (seen_of store.heap (value.Num m)),
       )) (after_update (n, value.Num m)) t a
       (writes s (λ store. (record { 0 = 2 }, op.Write x.now (seen_of store.heap (value.Num m)))) strict x.now
-      (value.Num m) (if prefix then value.Num m else value.Num n) given (reference_seen r) t a chosen leads))
+      (value.Num m) (if prefix then value.Num m else value.Num n) given (reference_seen r) t a chosen refines))

@@ -14,14 +14,14 @@ use Rattle.jl_meaning.specs.Expressions.{evaluate}
 use Rattle.jl_meaning.specs.Parts.{◌>>=◌, Answer, Part}
 use Rattle.jl_meaning.specs.forms.Members.{get_member}
 use Rattle.jl_store.specs.declared.names.Reference.{Reference as Resolved}
-use Rattle.jl_state.specs.Rest.{Gives}
+use Rattle.jl_state.specs.Rest.{RefinesExpression}
 use Rattle.jl_state.specs.Trees.{plain}
 use Rattle.jl_state.specs.ValueFrames.{key_after, value_after}
 use Rattle.jl_state.specs.Words.{context_of, noting, table_of}
 use Rattle.jl_state.specs.declared.act.Act.{Act}
 use Rattle.jl_state.specs.declared.frame.Here.{Here}
 use Rattle.jl_state.specs.declared.state.State.{State}
-use Rattle.jl_state.specs.declared.value_frame.KeyFor.TheVariants as key_for
+use Rattle.jl_state.specs.declared.value_frame.MemberUse.TheVariants as key_for
 use Rattle.jl_state.specs.declared.value_frame.ValueFrame.{ValueFrame}
 use Rattle.jl_state.specs.declared.value_frame.ValueFrame.TheVariants as waiting
 use Rattle.jl_member.proofs.Gets.{gets_so}
@@ -34,57 +34,62 @@ module _ (s : State) (k : Bor (Box Expr Global)) (e : Expr) (here : Here) (v : V
       evaluate (table_of s.functions) (plain (view_expression b)) (context_of s.calls here)
       >>= value_after (table_of s.functions) s.calls f
 
-  unboxed : (f : ValueFrame) → e ≡ k.now.value → Gives s (evaluated f e) t a → Gives s (evaluated f k.now.value) t a
-  unboxed f same leads = subst (λ (b : Expr). Gives s (evaluated f b) t a) same leads
+  unboxed : (f : ValueFrame) → e ≡ k.now.value → RefinesExpression s (evaluated f e) t a
+      → RefinesExpression s (evaluated f k.now.value) t a
+  unboxed f same refines = subst (λ (b : Expr). RefinesExpression s (evaluated f b) t a) same refines
 
-  pub evaluates_key : e ≡ k.now.value → Gives s (evaluated (waiting.IndexKey v) e) t a
-      → Gives s (value_after (table_of s.functions) s.calls (waiting.IndexBase k here) v) t a
-  evaluates_key same leads = unboxed (waiting.IndexKey v) same leads
+  pub evaluates_key : e ≡ k.now.value → RefinesExpression s (evaluated (waiting.IndexKey v) e) t a
+      → RefinesExpression s (value_after (table_of s.functions) s.calls (waiting.IndexBase k here) v) t a
+  evaluates_key same refines = unboxed (waiting.IndexKey v) same refines
 
-  pub evaluates_deleted_key : e ≡ k.now.value → Gives s (evaluated (waiting.DeleteIndexKey v here.strict) e) t a
-      → Gives s (value_after (table_of s.functions) s.calls (waiting.DeleteIndexBase k here) v) t a
-  evaluates_deleted_key same leads = unboxed (waiting.DeleteIndexKey v here.strict) same leads
+  pub evaluates_deleted_key : e ≡ k.now.value
+      → RefinesExpression s (evaluated (waiting.DeleteIndexKey v here.strict) e) t a
+      → RefinesExpression s (value_after (table_of s.functions) s.calls (waiting.DeleteIndexBase k here) v) t a
+  evaluates_deleted_key same refines = unboxed (waiting.DeleteIndexKey v here.strict) same refines
 
   pub evaluates_for_name : (x : Bor Name) (r : Resolved) (o : BinOp) → e ≡ k.now.value
-      → Gives s (evaluated (waiting.ComputeNameOperand x r o v here.strict) e) t a
-      → Gives s (value_after (table_of s.functions) s.calls (waiting.ComputeName x r o k here) v) t a
-  evaluates_for_name x r o same leads =
+      → RefinesExpression s (evaluated (waiting.ComputeNameOperand x r o v here.strict) e) t a
+      → RefinesExpression s (value_after (table_of s.functions) s.calls (waiting.ComputeName x r o k here) v) t a
+  evaluates_for_name x r o same refines =
       performed s (λ store. (record { 0 = 0 }, op.Read x.now (seen_of store.heap v)))
       (evaluated (waiting.ComputeNameOperand x r o v here.strict) k.now.value) t a
-      (unboxed (waiting.ComputeNameOperand x r o v here.strict) same leads)
+      (unboxed (waiting.ComputeNameOperand x r o v here.strict) same refines)
 
   pub evaluates_for_member : (base : Value) (x : Name) (o : BinOp) → e ≡ k.now.value
-      → Gives s (evaluated (waiting.ComputeMemberOperand base x o v here.strict) e) t a
-      → Gives s (value_after (table_of s.functions) s.calls (waiting.ComputeMember base x o k here) v) t a
-  evaluates_for_member base x o same leads = unboxed (waiting.ComputeMemberOperand base x o v here.strict) same leads
+      → RefinesExpression s (evaluated (waiting.ComputeMemberOperand base x o v here.strict) e) t a
+      → RefinesExpression s (value_after (table_of s.functions) s.calls (waiting.ComputeMember base x o k here) v) t a
+  evaluates_for_member base x o same refines = unboxed
+      (waiting.ComputeMemberOperand base x o v here.strict) same refines
 
   -- a member whose name has been found gets it
   pub evaluates_assigned : (x : Name) (o : Option BinOp) → o ≡ None → e ≡ k.now.value
-      → Gives s (evaluated (waiting.PutMember false (record { 0 = 0 }) v x here.strict) e) t a
-      → Gives s (key_after (table_of s.functions) s.calls (key_for.Assign v o k here) x) t a
-  evaluates_assigned x o is same leads =
-      subst (λ (p : Option BinOp). Gives s (key_after (table_of s.functions) s.calls (key_for.Assign v p k here) x) t a)
-      (sym is) (unboxed (waiting.PutMember false (record { 0 = 0 }) v x here.strict) same leads)
+      → RefinesExpression s (evaluated (waiting.PutMember false (record { 0 = 0 }) v x here.strict) e) t a
+      → RefinesExpression s (key_after (table_of s.functions) s.calls (key_for.Assign v o k here) x) t a
+  evaluates_assigned x o is same refines =
+      subst (λ (p : Option BinOp). RefinesExpression s
+      (key_after (table_of s.functions) s.calls (key_for.Assign v p k here) x) t a)
+      (sym is) (unboxed (waiting.PutMember false (record { 0 = 0 }) v x here.strict) same refines)
 
   -- where there is no operator
   pub assigns_plainly : (x : Name) (o : Option BinOp) → o ≡ None
-      → Gives s (key_after (table_of s.functions) s.calls (key_for.Assign v None k here) x) t a
-      → Gives s (key_after (table_of s.functions) s.calls (key_for.Assign v o k here) x) t a
-  assigns_plainly x o is leads =
-      subst (λ (p : Option BinOp). Gives s (key_after (table_of s.functions) s.calls (key_for.Assign v p k here) x) t a)
-      (sym is) leads
+      → RefinesExpression s (key_after (table_of s.functions) s.calls (key_for.Assign v None k here) x) t a
+      → RefinesExpression s (key_after (table_of s.functions) s.calls (key_for.Assign v o k here) x) t a
+  assigns_plainly x o is refines =
+      subst (λ (p : Option BinOp). RefinesExpression s
+      (key_after (table_of s.functions) s.calls (key_for.Assign v p k here) x) t a)
+      (sym is) refines
 
 -- the value of the member is got first
 pub computes_got : (s : State) (emitting : Bool) (id : ℕ) (base held : Value) (x named : Name) (o : BinOp)
     (k : Bor (Box Expr Global)) (here : Here) (t : State) (a : Act) → emitting ≡ false → id ≡ 0
     → held ≡ base → named ≡ x
-    → Gives s (get_member (noting emitting) id base x
+    → RefinesExpression s (get_member (noting emitting) id base x
     >>= value_after (table_of s.functions) s.calls (waiting.ComputeMember held named o k here)) t a
-    → Gives s (key_after (table_of s.functions) s.calls (key_for.Assign base (Some o) k here) x) t a
-computes_got s emitting id base held x named o k here t a is first same_base same_name leads =
+    → RefinesExpression s (key_after (table_of s.functions) s.calls (key_for.Assign base (Some o) k here) x) t a
+computes_got s emitting id base held x named o k here t a is first same_base same_name refines =
     gets_so s emitting id base x
     (value_after (table_of s.functions) s.calls (waiting.ComputeMember base x o k here)) t a is first
-    (subst (λ (b : Value). Gives s (get_member (noting emitting) id base x
+    (subst (λ (b : Value). RefinesExpression s (get_member (noting emitting) id base x
     >>= value_after (table_of s.functions) s.calls (waiting.ComputeMember b x o k here)) t a) same_base
-    (subst (λ (y : Name). Gives s (get_member (noting emitting) id base x
-    >>= value_after (table_of s.functions) s.calls (waiting.ComputeMember held y o k here)) t a) same_name leads))
+    (subst (λ (y : Name). RefinesExpression s (get_member (noting emitting) id base x
+    >>= value_after (table_of s.functions) s.calls (waiting.ComputeMember held y o k here)) t a) same_name refines))

@@ -15,7 +15,7 @@ use Rattle.jl_meaning.specs.Operators.{give_next, give_number, next_after}
 use Rattle.jl_meaning.specs.Parts.{give, lift, or_fault, ◌>>=◌, Answer, NumberOutside, Part}
 use Rattle.jl_meaning.specs.forms.Operators.{update}
 use Rattle.jl_state.specs.AlgorithmFrames.{number_of_primitive}
-use Rattle.jl_state.specs.Rest.{Gives, Works}
+use Rattle.jl_state.specs.Rest.{RefinesExpression, RefinesAlgorithm}
 use Rattle.jl_state.specs.Steps.{ValueWaits}
 use Rattle.jl_state.specs.ValueFrames.{value_after}
 use Rattle.jl_state.specs.Words.{table_of}
@@ -74,27 +74,34 @@ pub update_waits : (s t u : State) (how : Noting) (id : ℕ) (o : UnKind) (v : V
     (k : Number × Value → Part (Answer Value)) (f : ValueFrame) (a : Act)
     → ((p : Value) → value_after (table_of s.functions) s.calls f p
     ≡ (lift (number_of_primitive p) >>= after_number how id o v k))
-    → ValueWaits s f t → Works t (to_primitive number_hint v) u a → Gives s (update how id o v >>= k) u a
-update_waits s t u how id o v k f a after waits leads =
-    subst (λ q. Gives s q u a) (sym (update_then how id o v k))
-    (subst (λ (g : Value → Part (Answer Value)). Gives s (lift (to_primitive number_hint v) >>= g) u a) (fun_ext after)
-    (waits.works (to_primitive number_hint v) u a leads))
+    → ValueWaits s f t → RefinesAlgorithm t (to_primitive number_hint v) u a
+    → RefinesExpression s (update how id o v >>= k) u a
+update_waits s t u how id o v k f a after waits refines =
+    subst (λ q. RefinesExpression s q u a) (sym (update_then how id o v k))
+    (subst (λ (g : Value → Part (Answer Value)). RefinesExpression s (lift (to_primitive number_hint v) >>= g) u a)
+    (fun_ext after)
+    (waits.works (to_primitive number_hint v) u a refines))
 
 -- a number needs no frame: it is a primitive value
 pub update_number : (s : State) (how : Noting) (id : ℕ) (o : UnKind) (v : Value) (n : Number)
     (k : Number × Value → Part (Answer Value)) (u : State) (a : Act) → v ≡ value.Num n
-    → Gives s (lift (number_of_primitive v) >>= after_number how id o v k) u a → Gives s (update how id o v >>= k) u a
+    → RefinesExpression s (lift (number_of_primitive v) >>= after_number how id o v k) u a
+    → RefinesExpression s (update how id o v >>= k) u a
 unfolding to_primitive
-update_number s how id o v n k u a is leads =
-    subst (λ q. Gives s q u a) (sym (update_then how id o v k)) (by v is leads)
+update_number s how id o v n k u a is refines =
+    subst (λ q. RefinesExpression s q u a) (sym (update_then how id o v k)) (by v is refines)
   where
-    by : (p : Value) → p ≡ value.Num n → Gives s (lift (number_of_primitive p) >>= after_number how id o v k) u a
-        → Gives s (lift (to_primitive number_hint p) >>= λ q. lift (number_of_primitive q) >>= after_number how id o v k)
+    by : (p : Value) → p ≡ value.Num n → RefinesExpression s
+        (lift (number_of_primitive p) >>= after_number how id o v k) u a
+        → RefinesExpression s (lift (to_primitive number_hint p) >>= λ q. lift
+        (number_of_primitive q) >>= after_number how id o v k)
         u a
     by p e given =
-        subst (λ (q : Value). Gives s (lift (to_primitive number_hint q) >>= λ r. lift (number_of_primitive r)
+        subst (λ (q : Value). RefinesExpression s
+        (lift (to_primitive number_hint q) >>= λ r. lift (number_of_primitive r)
         >>= after_number how id o v k) u a) (sym e)
-        (subst (λ (q : Value). Gives s (lift (number_of_primitive q) >>= after_number how id o v k) u a) e given)
+        (subst (λ (q : Value). RefinesExpression s
+        (lift (number_of_primitive q) >>= after_number how id o v k) u a) e given)
 
 -- the number of a primitive value, and the one after it
 
@@ -108,33 +115,34 @@ second_or n (Some found) = found.1
 
 pub finds_next : (s : State) (o : UnKind) (p : Value) (r : Option (Number × Number)) (n m : Number)
     (k : Number → Value → Part (Answer Value)) (t : State) (a : Act)
-    → r ≡ next_of o p → r ≡ Some (n, m) → Gives s (k n (value.Num m)) t a → Gives s (next_then o p k) t a
-finds_next s o p r n m k t a same is leads = by (number_of_value p) (sym same ∙ is)
+    → r ≡ next_of o p → r ≡ Some (n, m) → RefinesExpression s (k n (value.Num m)) t a
+    → RefinesExpression s (next_then o p k) t a
+finds_next s o p r n m k t a same is refines = by (number_of_value p) (sym same ∙ is)
   where
     next : (i : Number) (x : Option Number) → pair_of i x ≡ Some (n, m)
-        → Gives s (lift (give_number x) >>= λ w. k i w) t a
+        → RefinesExpression s (lift (give_number x) >>= λ w. k i w) t a
     next i None e = absurd (let differ = e in cc)
     next i (Some j) e =
-        subst (λ (x : Number). Gives s (k x (value.Num j)) t a) (sym (ap (first_or n) e))
-        (subst (λ (y : Number). Gives s (k n (value.Num y)) t a) (sym (ap (second_or m) e)) leads)
+        subst (λ (x : Number). RefinesExpression s (k x (value.Num j)) t a) (sym (ap (first_or n) e))
+        (subst (λ (y : Number). RefinesExpression s (k n (value.Num y)) t a) (sym (ap (second_or m) e)) refines)
 
     by : (x : Option Number) → pair_from o x ≡ Some (n, m)
-        → Gives s (lift (or_fault NumberOutside x) >>= λ i. lift (give_next o i) >>= λ w. k i w) t a
+        → RefinesExpression s (lift (or_fault NumberOutside x) >>= λ i. lift (give_next o i) >>= λ w. k i w) t a
     by None e = absurd (let differ = e in cc)
     by (Some i) e = next i (next_after o i) e
 
 pub no_next : (s : State) (o : UnKind) (p : Value) (r : Option (Number × Number))
     (k : Number → Value → Part (Answer Value))
-    → r ≡ next_of o p → r ≡ None → Gives s (next_then o p k) s (act.Fault fault.NumberOutside)
+    → r ≡ next_of o p → r ≡ None → RefinesExpression s (next_then o p k) s (act.Fault fault.NumberOutside)
 no_next s o p r k same is = by (number_of_value p) (sym same ∙ is)
   where
     next : (i : Number) (x : Option Number) → pair_of i x ≡ None
-        → Gives s (lift (give_number x) >>= λ w. k i w) s (act.Fault fault.NumberOutside)
+        → RefinesExpression s (lift (give_number x) >>= λ w. k i w) s (act.Fault fault.NumberOutside)
     next i None e = record { is = λ kept told. refl }
     next i (Some j) e = absurd (let differ = e in cc)
 
     by : (x : Option Number) → pair_from o x ≡ None
-        → Gives s (lift (or_fault NumberOutside x) >>= λ i. lift (give_next o i) >>= λ w. k i w) s
+        → RefinesExpression s (lift (or_fault NumberOutside x) >>= λ i. lift (give_next o i) >>= λ w. k i w) s
         (act.Fault fault.NumberOutside)
     by None e = record { is = λ kept told. refl }
     by (Some i) e = next i (next_after o i) e

@@ -14,7 +14,7 @@ use jl_algorithm::leaf_value;
 use jl_ast::{BinOp, Expr};
 use jl_op::OpId;
 use jl_operator::operate;
-use jl_state::{Act, Here, KeyFor, State, ValueFrame};
+use jl_state::{Act, Here, MemberUse, State, ValueFrame};
 use jl_text::{NoMemory, Text};
 use jl_value::{Value, share};
 
@@ -27,17 +27,17 @@ pub fn assign_member<'p>(
     value: &'p Box<Expr>,
     here: Here,
 ) -> Result<Act<'p>, NoMemory>
-    ensures leads { Evaluates state.old (assign_member 0 (context_of state.old.calls here) base key op (evaluate
+    ensures refines { Evaluates state.old (assign_member 0 (context_of state.old.calls here) base key op (evaluate
         (table_of state.old.functions) (plain (view_expression value.now.value)) (context_of state.old.calls here)))
         result state.new }
-    ensures falls { RankAtMost state.old 186 result state.new }
+    ensures bounded { RankAtMost state.old 186 result state.new }
 {
     let alloc = state.alloc();
     let found = quick_key(alloc, &base, &key)?;
     match found {
         Some(name) => assign_by_key(state, base, op, value, here, name),
         None => {
-            let purpose = KeyFor::Assign {
+            let purpose = MemberUse::Assign {
                 base: share(alloc, &base)?,
                 op,
                 value,
@@ -57,8 +57,8 @@ pub fn assign_by_key<'p>(
     here: Here,
     name: Text,
 ) -> Result<Act<'p>, NoMemory>
-    ensures leads { Uses state.old (KeyFor.Assign base op value.entry here) name result state.new }
-    ensures falls { RankAtMost state.old 160 result state.new }
+    ensures refines { Uses state.old (MemberUse.Assign base op value.entry here) name result state.new }
+    ensures bounded { RankAtMost state.old 160 result state.new }
 {
     match op {
         Some(op) => compute_by_key(state, base, op, value, here, name),
@@ -74,8 +74,8 @@ fn put_by_key<'p>(
     here: Here,
     name: Text,
 ) -> Result<Act<'p>, NoMemory>
-    ensures leads { Uses state.old (KeyFor.Assign base None value.entry here) name result state.new }
-    ensures falls { RankAtMost state.old 160 result state.new }
+    ensures refines { Uses state.old (MemberUse.Assign base None value.entry here) name result state.new }
+    ensures bounded { RankAtMost state.old 160 result state.new }
 {
     let found = leaf_value(&*state, value, here)?;
     match found {
@@ -105,8 +105,8 @@ fn compute_by_key<'p>(
     here: Here,
     name: Text,
 ) -> Result<Act<'p>, NoMemory>
-    ensures leads { Uses state.old (KeyFor.Assign base (Some op) value.entry here) name result state.new }
-    ensures falls { RankAtMost state.old 160 result state.new }
+    ensures refines { Uses state.old (MemberUse.Assign base (Some op) value.entry here) name result state.new }
+    ensures bounded { RankAtMost state.old 160 result state.new }
 {
     let alloc = state.alloc();
     state.push_value(ValueFrame::ComputeMember {
@@ -128,8 +128,8 @@ pub fn step_assign_dot_base<'p>(
     here: Here,
     v: Value,
 ) -> Result<Act<'p>, NoMemory>
-    ensures leads { Resumes state.old (ValueFrame.AssignDotBase key.entry op value.entry here) v result state.new }
-    ensures falls { RankAtMost state.old 190 result state.new }
+    ensures refines { Resumes state.old (ValueFrame.AssignDotBase key.entry op value.entry here) v result state.new }
+    ensures bounded { RankAtMost state.old 190 result state.new }
 {
     let alloc = state.alloc();
     let key = Value::Text(key.share(alloc)?);
@@ -145,8 +145,8 @@ pub fn step_assign_index_base<'p>(
     here: Here,
     v: Value,
 ) -> Result<Act<'p>, NoMemory>
-    ensures leads { Resumes state.old (ValueFrame.AssignIndexBase key.entry op value.entry here) v result state.new }
-    ensures falls { RankAtMost state.old 194 result state.new }
+    ensures refines { Resumes state.old (ValueFrame.AssignIndexBase key.entry op value.entry here) v result state.new }
+    ensures bounded { RankAtMost state.old 194 result state.new }
 {
     let found = leaf_value(&*state, key, here)?;
     match found {
@@ -175,8 +175,8 @@ pub fn step_assign_index_key<'p>(
     here: Here,
     v: Value,
 ) -> Result<Act<'p>, NoMemory>
-    ensures leads { Resumes state.old (ValueFrame.AssignIndexKey base op value.entry here) v result state.new }
-    ensures falls { RankAtMost state.old 190 result state.new }
+    ensures refines { Resumes state.old (ValueFrame.AssignIndexKey base op value.entry here) v result state.new }
+    ensures bounded { RankAtMost state.old 190 result state.new }
 {
     assign_member(state, base, v, op, value, here)
 }
@@ -191,8 +191,8 @@ pub fn step_compute_member<'p>(
     here: Here,
     v: Value,
 ) -> Result<Act<'p>, NoMemory>
-    ensures leads { Resumes state.old (ValueFrame.ComputeMember base name op value.entry here) v result state.new }
-    ensures falls { RankAtMost state.old 124 result state.new }
+    ensures refines { Resumes state.old (ValueFrame.ComputeMember base name op value.entry here) v result state.new }
+    ensures bounded { RankAtMost state.old 124 result state.new }
 {
     let strict = here.strict;
     let found = leaf_value(&*state, value, here)?;
@@ -224,8 +224,8 @@ pub fn step_compute_member_operand<'p>(
     strict: bool,
     v: Value,
 ) -> Result<Act<'p>, NoMemory>
-    ensures leads { Resumes state.old (ValueFrame.ComputeMemberOperand base name op held strict) v result state.new }
-    ensures falls { RankAtMost state.old 120 result state.new }
+    ensures refines { Resumes state.old (ValueFrame.ComputeMemberOperand base name op held strict) v result state.new }
+    ensures bounded { RankAtMost state.old 120 result state.new }
 {
     state.push_value(ValueFrame::PutMember {
         emits: false,

@@ -24,10 +24,10 @@ pub fn assign_name<'p>(
     value: &'p Expr,
     here: Here,
 ) -> Result<Act<'p>, NoMemory>
-    ensures leads { Evaluates state.old (assign_name 0 (context_of state.old.calls here) name.now (evaluate
+    ensures refines { Evaluates state.old (assign_name 0 (context_of state.old.calls here) name.now (evaluate
         (table_of state.old.functions) (plain (view_expression value.now)) (context_of state.old.calls here)))
         result state.new }
-    ensures falls { RankAtMost state.old 60 result state.new }
+    ensures bounded { RankAtMost state.old 60 result state.new }
 {
     if is_hooks(name) {
         return Ok(Act::Fault(Fault::Misuse));
@@ -44,10 +44,10 @@ fn write_value<'p>(
     value: &'p Expr,
     here: Here,
 ) -> Result<Act<'p>, NoMemory>
-    ensures leads { Evaluates state.old (evaluate (table_of state.old.functions) (plain (view_expression value.now))
+    ensures refines { Evaluates state.old (evaluate (table_of state.old.functions) (plain (view_expression value.now))
         (context_of state.old.calls here) then value_after (table_of state.old.functions) state.old.calls
         (ValueFrame.WriteName (record { 0 = 0 }) name.entry reference here.strict)) result state.new }
-    ensures falls { RankAtMost state.old 50 result state.new }
+    ensures bounded { RankAtMost state.old 50 result state.new }
 {
     let found = leaf_value(&*state, value, here)?;
     match found {
@@ -76,8 +76,8 @@ pub fn step_write_name<'p>(
     strict: bool,
     v: Value,
 ) -> Result<Act<'p>, NoMemory>
-    ensures leads { Resumes state.old (ValueFrame.WriteName id name.entry reference strict) v result state.new }
-    ensures falls { RankAtMost state.old 46 result state.new }
+    ensures refines { Resumes state.old (ValueFrame.WriteName id name.entry reference strict) v result state.new }
+    ensures bounded { RankAtMost state.old 46 result state.new }
 {
     let alloc = state.alloc();
     let given = share(alloc, &v)?;
@@ -92,15 +92,20 @@ pub fn compute_name<'p>(
     value: &'p Box<Expr>,
     here: Here,
 ) -> Result<Act<'p>, NoMemory>
-    ensures leads { Evaluates state.old (compute_name 0 (context_of state.old.calls here) name.now op (evaluate
+    ensures refines { Evaluates state.old (compute_name 0 (context_of state.old.calls here) name.now op (evaluate
         (table_of state.old.functions) (plain (view_expression value.now.value)) (context_of state.old.calls here)))
         result state.new }
-    ensures falls { RankAtMost state.old 120 result state.new }
+    ensures bounded { RankAtMost state.old 120 result state.new }
 {
     if is_hooks(name) {
         return Ok(Act::Fault(Fault::Misuse));
     }
     let reference = state.store.identifier_reference(here.env, name);
+    if let Reference::InEnvironment(env) = reference {
+        let v = state.store.binding_value(env, name)?;
+        let bound = Reference::InEnvironment(env);
+        return step_compute_name(state, name, bound, op, value, here, v);
+    }
     state.push_value(ValueFrame::ComputeName {
         name,
         reference,
@@ -122,9 +127,9 @@ pub fn step_compute_name<'p>(
     here: Here,
     v: Value,
 ) -> Result<Act<'p>, NoMemory>
-    ensures leads { Resumes state.old (ValueFrame.ComputeName name.entry reference op value.entry here) v result
+    ensures refines { Resumes state.old (ValueFrame.ComputeName name.entry reference op value.entry here) v result
         state.new }
-    ensures falls { RankAtMost state.old 104 result state.new }
+    ensures bounded { RankAtMost state.old 104 result state.new }
 {
     let strict = here.strict;
     let found = leaf_value(&*state, value, here)?;
@@ -156,9 +161,9 @@ pub fn step_compute_name_operand<'p>(
     strict: bool,
     v: Value,
 ) -> Result<Act<'p>, NoMemory>
-    ensures leads { Resumes state.old (ValueFrame.ComputeNameOperand name.entry reference op held strict) v result
+    ensures refines { Resumes state.old (ValueFrame.ComputeNameOperand name.entry reference op held strict) v result
         state.new }
-    ensures falls { RankAtMost state.old 100 result state.new }
+    ensures bounded { RankAtMost state.old 100 result state.new }
 {
     state.push_value(ValueFrame::WriteName {
         id: OpId(2),

@@ -6,7 +6,7 @@ ghost use Rattle.jl_meaning.specs.Parts.{give, ◌>>=◌ as ◌then◌};
 ghost use Rattle.jl_meaning.specs.forms.Members.{delete_member};
 ghost use Rattle.jl_op.specs.declared.op.Op.TheVariants as op;
 ghost use Rattle.jl_state.specs.Clauses.{Evaluates, RankAtMost, Resumes, Uses};
-ghost use Rattle.jl_state.specs.Rest.{Gives};
+ghost use Rattle.jl_state.specs.Rest.{RefinesExpression};
 ghost use Rattle.jl_state.specs.Words.{noting};
 
 use crate::members::{by_script, member_name, quick_key};
@@ -14,7 +14,7 @@ use jl_algorithm::delete;
 use jl_ast::Expr;
 use jl_op::Op;
 use jl_operator::emit;
-use jl_state::{Act, Here, KeyFor, Noted, State, ValueFrame};
+use jl_state::{Act, Here, MemberUse, Noted, State, ValueFrame};
 use jl_store::Answer;
 use jl_text::{NoMemory, Text};
 use jl_value::{Completion, Value, share};
@@ -28,16 +28,16 @@ pub fn delete_member<'p>(
     base: Value,
     key: Value,
 ) -> Result<Act<'p>, NoMemory>
-    ensures leads { Evaluates state.old (delete_member (noting noted.emits) noted.id.id strict base key) result
+    ensures refines { Evaluates state.old (delete_member (noting noted.emits) noted.id.id strict base key) result
         state.new }
-    ensures falls { RankAtMost state.old 30 result state.new }
+    ensures bounded { RankAtMost state.old 30 result state.new }
 {
     let alloc = state.alloc();
     let found = quick_key(alloc, &base, &key)?;
     match found {
         Some(name) => delete_by_key(state, noted, base, strict, name),
         None => {
-            let purpose = KeyFor::Delete {
+            let purpose = MemberUse::Delete {
                 noted,
                 base: share(alloc, &base)?,
                 strict,
@@ -55,8 +55,8 @@ pub fn delete_by_key<'p>(
     strict: bool,
     name: Text,
 ) -> Result<Act<'p>, NoMemory>
-    ensures leads { Uses state.old (KeyFor.Delete noted base strict) name result state.new }
-    ensures falls { RankAtMost state.old 8 result state.new }
+    ensures refines { Uses state.old (MemberUse.Delete noted base strict) name result state.new }
+    ensures bounded { RankAtMost state.old 8 result state.new }
 {
     match delete(state, strict, &base, &name)? {
         Answer::Gives(free) => note_deleted(state, noted, &base, name, free),
@@ -72,9 +72,9 @@ fn note_deleted<'p>(
     name: Text,
     free: bool,
 ) -> Result<Act<'p>, NoMemory>
-    ensures leads { Evaluates state.old (note (noting noted.emits) noted.id.id (λ heap. op.DeleteField (seen_of heap
+    ensures refines { Evaluates state.old (note (noting noted.emits) noted.id.id (λ heap. op.DeleteField (seen_of heap
         base.now) name free) then λ _. give (value.Bool free)) result state.new }
-    ensures falls { RankAtMost state.old 6 result state.new }
+    ensures bounded { RankAtMost state.old 6 result state.new }
 {
     if !noted.emits {
         return Ok(Act::Give(Value::Bool(free)));
@@ -89,8 +89,8 @@ fn note_deleted<'p>(
 
 /// `delete` of what is no reference gives true (11.4.1, step 2).
 pub fn step_delete_value<'p>(state: &mut State<'p>, v: Value) -> Result<Act<'p>, NoMemory>
-    ensures leads { Resumes state.old ValueFrame.DeleteValue v result state.new }
-    ensures falls { RankAtMost state.old 3 result state.new }
+    ensures refines { Resumes state.old ValueFrame.DeleteValue v result state.new }
+    ensures bounded { RankAtMost state.old 3 result state.new }
 {
     Ok(Act::Give(Value::Bool(true)))
 }
@@ -102,8 +102,8 @@ pub fn step_delete_dot_base<'p>(
     strict: bool,
     v: Value,
 ) -> Result<Act<'p>, NoMemory>
-    ensures leads { Resumes state.old (ValueFrame.DeleteDotBase key.entry strict) v result state.new }
-    ensures falls { RankAtMost state.old 30 result state.new }
+    ensures refines { Resumes state.old (ValueFrame.DeleteDotBase key.entry strict) v result state.new }
+    ensures bounded { RankAtMost state.old 30 result state.new }
 {
     let alloc = state.alloc();
     let key = Value::Text(key.share(alloc)?);
@@ -117,8 +117,8 @@ pub fn step_delete_index_base<'p>(
     here: Here,
     v: Value,
 ) -> Result<Act<'p>, NoMemory>
-    ensures leads { Resumes state.old (ValueFrame.DeleteIndexBase key.entry here) v result state.new }
-    ensures falls { RankAtMost state.old 34 result state.new }
+    ensures refines { Resumes state.old (ValueFrame.DeleteIndexBase key.entry here) v result state.new }
+    ensures bounded { RankAtMost state.old 34 result state.new }
 {
     let frame = ValueFrame::DeleteIndexKey {
         base: v,
@@ -134,8 +134,8 @@ pub fn step_delete_index_key<'p>(
     strict: bool,
     v: Value,
 ) -> Result<Act<'p>, NoMemory>
-    ensures leads { Resumes state.old (ValueFrame.DeleteIndexKey base strict) v result state.new }
-    ensures falls { RankAtMost state.old 30 result state.new }
+    ensures refines { Resumes state.old (ValueFrame.DeleteIndexKey base strict) v result state.new }
+    ensures bounded { RankAtMost state.old 30 result state.new }
 {
     delete_own(state, strict, base, v)
 }
@@ -147,8 +147,8 @@ fn delete_own<'p>(
     base: Value,
     key: Value,
 ) -> Result<Act<'p>, NoMemory>
-    ensures leads { Evaluates state.old (delete_member performs 0 strict base key) result state.new }
-    ensures falls { RankAtMost state.old 30 result state.new }
+    ensures refines { Evaluates state.old (delete_member performs 0 strict base key) result state.new }
+    ensures bounded { RankAtMost state.old 30 result state.new }
 {
     delete_member(state, by_script(), strict, base, key)
 }

@@ -10,7 +10,7 @@ ghost use Rattle.jl_state.specs.Words.{table_of};
 
 use jl_algorithm::{throw_native, to_primitive};
 use jl_conv::primitive_to_text;
-use jl_state::{Act, Hint, HookId, KeyFor, Noted, State, ValueFrame};
+use jl_state::{Act, Boxed, Hint, HookId, MemberUse, Noted, State, ValueFrame};
 use jl_text::{NoMemory, Text};
 use jl_value::{ErrorKind, Value, is_nothing, is_object};
 use std::alloc::Global;
@@ -32,11 +32,11 @@ pub fn member_name<'p>(
     state: &mut State<'p>,
     base: &Value,
     key: Value,
-    purpose: KeyFor<'p>,
+    purpose: MemberUse<'p>,
 ) -> Result<Act<'p>, NoMemory>
-    ensures leads { Evaluates state.old (lift (member_name base.now key) then key_after (table_of
+    ensures refines { Evaluates state.old (lift (member_name base.now key) then key_after (table_of
         state.old.functions) state.old.calls purpose.entry) result state.new }
-    ensures falls { RankAtMost state.old (rank_key purpose.entry + 20) result state.new }
+    ensures bounded { RankAtMost state.old (rank_key purpose.entry + 20) result state.new }
 {
     match base {
         Value::Undefined => throw_native(state, ErrorKind::TypeError, "no property of undefined"),
@@ -51,12 +51,13 @@ pub fn member_name<'p>(
 fn convert_key<'p>(
     state: &mut State<'p>,
     key: Value,
-    purpose: KeyFor<'p>,
+    purpose: MemberUse<'p>,
 ) -> Result<Act<'p>, NoMemory>
-    ensures leads { Evaluates state.old (lift (to_string key) then key_after (table_of state.old.functions)
+    ensures refines { Evaluates state.old (lift (to_string key) then key_after (table_of state.old.functions)
         state.old.calls purpose.entry) result state.new }
-    ensures falls { RankAtMost state.old (rank_key purpose.entry + 16) result state.new }
+    ensures bounded { RankAtMost state.old (rank_key purpose.entry + 16) result state.new }
 {
+    let purpose = Boxed::of(state.alloc(), purpose)?;
     state.push_value(ValueFrame::Key(purpose))?;
     to_primitive(state, key, Hint::Text)
 }

@@ -9,7 +9,7 @@ use crate::read_members::found_on;
 use jl_algorithm::put;
 use jl_op::{Op, OpId};
 use jl_operator::emit_for;
-use jl_state::{Act, State, ToldFrame, ValueFrame};
+use jl_state::{Act, EmitFrame, State, ValueFrame};
 use jl_text::{NoMemory, Text};
 use jl_value::{Value, share};
 
@@ -24,9 +24,9 @@ pub fn put_member<'p>(
     v: Value,
     gives: Value,
 ) -> Result<Act<'p>, NoMemory>
-    ensures leads { Evaluates state.old (put_member (noting emits) id.0 strict base name v then λ _. give gives)
+    ensures refines { Evaluates state.old (put_member (noting emits) id.0 strict base name v then λ _. give gives)
         result state.new }
-    ensures falls { RankAtMost state.old 56 result state.new }
+    ensures bounded { RankAtMost state.old 56 result state.new }
 {
     if emits {
         emit_and_put(state, id, strict, base, name, v, gives)
@@ -45,9 +45,9 @@ fn emit_and_put<'p>(
     v: Value,
     gives: Value,
 ) -> Result<Act<'p>, NoMemory>
-    ensures leads { Evaluates state.old (put_member emits id.0 strict base name v then λ _. give gives) result
+    ensures refines { Evaluates state.old (put_member emits id.0 strict base name v then λ _. give gives) result
         state.new }
-    ensures falls { RankAtMost state.old 56 result state.new }
+    ensures bounded { RankAtMost state.old 56 result state.new }
 {
     let alloc = state.alloc();
     let told = Op::PutField {
@@ -56,7 +56,7 @@ fn emit_and_put<'p>(
         value: state.store.seen(&v)?,
         found: found_on(&state.store, &base, &name),
     };
-    let frame = ToldFrame::Put {
+    let frame = EmitFrame::Put {
         base,
         name,
         value: v,
@@ -76,8 +76,8 @@ pub fn step_put_member<'p>(
     strict: bool,
     v: Value,
 ) -> Result<Act<'p>, NoMemory>
-    ensures leads { Resumes state.old (ValueFrame.PutMember emits id base name strict) v result state.new }
-    ensures falls { RankAtMost state.old 60 result state.new }
+    ensures refines { Resumes state.old (ValueFrame.PutMember emits id base name strict) v result state.new }
+    ensures bounded { RankAtMost state.old 60 result state.new }
 {
     let alloc = state.alloc();
     let given = share(alloc, &v)?;

@@ -10,7 +10,7 @@ use crate::members::{by_script, member_name, quick_key};
 use jl_algorithm::{get, leaf_value};
 use jl_ast::Expr;
 use jl_op::{Found, OpId};
-use jl_state::{Act, Here, KeyFor, Noted, State, ValueFrame};
+use jl_state::{Act, Here, MemberUse, Noted, State, ValueFrame};
 use jl_store::Store;
 use jl_text::{NoMemory, Text};
 use jl_value::{Value, is_nothing, share};
@@ -32,8 +32,8 @@ pub fn get_member<'p>(
     base: Value,
     name: Text,
 ) -> Result<Act<'p>, NoMemory>
-    ensures leads { Evaluates state.old (get_member (noting noted.emits) noted.id.id base name) result state.new }
-    ensures falls { RankAtMost state.old 14 result state.new }
+    ensures refines { Evaluates state.old (get_member (noting noted.emits) noted.id.id base name) result state.new }
+    ensures bounded { RankAtMost state.old 14 result state.new }
 {
     if noted.emits {
         get_and_emit(state, noted.id.first(), base, name)
@@ -49,8 +49,8 @@ fn get_and_emit<'p>(
     base: Value,
     name: Text,
 ) -> Result<Act<'p>, NoMemory>
-    ensures leads { Evaluates state.old (get_member emits id.0 base name) result state.new }
-    ensures falls { RankAtMost state.old 14 result state.new }
+    ensures refines { Evaluates state.old (get_member emits id.0 base name) result state.new }
+    ensures bounded { RankAtMost state.old 14 result state.new }
 {
     let alloc = state.alloc();
     let found = found_on(&state.store, &base, &name);
@@ -70,16 +70,16 @@ pub fn get_by_key<'p>(
     base: Value,
     name: Text,
 ) -> Result<Act<'p>, NoMemory>
-    ensures leads { Uses state.old (KeyFor.Get noted base) name result state.new }
-    ensures falls { RankAtMost state.old 16 result state.new }
+    ensures refines { Uses state.old (MemberUse.Get noted base) name result state.new }
+    ensures bounded { RankAtMost state.old 16 result state.new }
 {
     get_member(state, noted, base, name)
 }
 
 /// o[k] (11.2.1).
 pub fn read_member<'p>(state: &mut State<'p>, base: Value, key: Value) -> Result<Act<'p>, NoMemory>
-    ensures leads { Evaluates state.old (read_member 0 base key) result state.new }
-    ensures falls { RankAtMost state.old 38 result state.new }
+    ensures refines { Evaluates state.old (read_member 0 base key) result state.new }
+    ensures bounded { RankAtMost state.old 38 result state.new }
 {
     let alloc = state.alloc();
     let noted = by_script();
@@ -87,7 +87,7 @@ pub fn read_member<'p>(state: &mut State<'p>, base: Value, key: Value) -> Result
     match found {
         Some(name) => get_member(state, noted, base, name),
         None => {
-            let purpose = KeyFor::Get {
+            let purpose = MemberUse::Get {
                 noted,
                 base: share(alloc, &base)?,
             };
@@ -102,8 +102,8 @@ pub fn step_dot_base<'p>(
     key: &'p Text,
     v: Value,
 ) -> Result<Act<'p>, NoMemory>
-    ensures leads { Resumes state.old (ValueFrame.DotBase key.entry) v result state.new }
-    ensures falls { RankAtMost state.old 40 result state.new }
+    ensures refines { Resumes state.old (ValueFrame.DotBase key.entry) v result state.new }
+    ensures bounded { RankAtMost state.old 40 result state.new }
 {
     let alloc = state.alloc();
     let name = key.share(alloc)?;
@@ -120,8 +120,8 @@ pub fn step_index_base<'p>(
     here: Here,
     v: Value,
 ) -> Result<Act<'p>, NoMemory>
-    ensures leads { Resumes state.old (ValueFrame.IndexBase key.entry here) v result state.new }
-    ensures falls { RankAtMost state.old 44 result state.new }
+    ensures refines { Resumes state.old (ValueFrame.IndexBase key.entry here) v result state.new }
+    ensures bounded { RankAtMost state.old 44 result state.new }
 {
     let found = leaf_value(&*state, key, here)?;
     match found {
@@ -135,8 +135,8 @@ pub fn step_index_base<'p>(
 
 /// `o[k]` goes on with k.
 pub fn step_index_key<'p>(state: &mut State<'p>, base: Value, v: Value) -> Result<Act<'p>, NoMemory>
-    ensures leads { Resumes state.old (ValueFrame.IndexKey base) v result state.new }
-    ensures falls { RankAtMost state.old 40 result state.new }
+    ensures refines { Resumes state.old (ValueFrame.IndexKey base) v result state.new }
+    ensures bounded { RankAtMost state.old 40 result state.new }
 {
     read_member(state, base, v)
 }

@@ -19,7 +19,7 @@ use jl_ast::Expr;
 use jl_num::{Num, NumberOutside};
 use jl_op::{Op, update_kind};
 use jl_operator::emit_for;
-use jl_state::{Act, Here, Hint, KeyFor, Noted, State, ToldFrame, ValueFrame};
+use jl_state::{Act, EmitFrame, Here, Hint, MemberUse, Noted, State, ValueFrame};
 use jl_text::{NoMemory, Text};
 use jl_value::{Fault, Value, share};
 
@@ -33,16 +33,16 @@ pub fn update_member<'p>(
     base: Value,
     key: Value,
 ) -> Result<Act<'p>, NoMemory>
-    ensures leads { Evaluates state.old (update_member (noting noted.emits) noted.id.id strict (update_kind up) base
+    ensures refines { Evaluates state.old (update_member (noting noted.emits) noted.id.id strict (update_kind up) base
         key then λ v. give (if prefix then v.1 else value.Num v.0)) result state.new }
-    ensures falls { RankAtMost state.old 146 result state.new }
+    ensures bounded { RankAtMost state.old 146 result state.new }
 {
     let alloc = state.alloc();
     let found = quick_key(alloc, &base, &key)?;
     match found {
         Some(name) => update_by_key(state, noted, base, up, prefix, strict, name),
         None => {
-            let purpose = KeyFor::Update {
+            let purpose = MemberUse::Update {
                 noted,
                 base: share(alloc, &base)?,
                 up,
@@ -64,8 +64,8 @@ pub fn update_by_key<'p>(
     strict: bool,
     name: Text,
 ) -> Result<Act<'p>, NoMemory>
-    ensures leads { Uses state.old (KeyFor.Update noted base up prefix strict) name result state.new }
-    ensures falls { RankAtMost state.old 120 result state.new }
+    ensures refines { Uses state.old (MemberUse.Update noted base up prefix strict) name result state.new }
+    ensures bounded { RankAtMost state.old 120 result state.new }
 {
     let alloc = state.alloc();
     state.push_value(ValueFrame::UpdateMember {
@@ -88,12 +88,12 @@ fn update_expression<'p>(
     base: Value,
     key: Value,
 ) -> Result<Act<'p>, NoMemory>
-    ensures leads { Evaluates state.old (update_expression 0 (context_of state.old.calls (record {
+    ensures refines { Evaluates state.old (update_expression 0 (context_of state.old.calls (record {
       env = 0;
       strict =
           strict;
     })) base key up prefix) result state.new }
-    ensures falls { RankAtMost state.old 146 result state.new }
+    ensures bounded { RankAtMost state.old 146 result state.new }
 {
     let noted = by_script();
     update_member(state, noted, strict, up, prefix, base, key)
@@ -108,8 +108,8 @@ pub fn step_update_dot_base<'p>(
     strict: bool,
     v: Value,
 ) -> Result<Act<'p>, NoMemory>
-    ensures leads { Resumes state.old (ValueFrame.UpdateDotBase key.entry up prefix strict) v result state.new }
-    ensures falls { RankAtMost state.old 150 result state.new }
+    ensures refines { Resumes state.old (ValueFrame.UpdateDotBase key.entry up prefix strict) v result state.new }
+    ensures bounded { RankAtMost state.old 150 result state.new }
 {
     let alloc = state.alloc();
     let key = Value::Text(key.share(alloc)?);
@@ -126,8 +126,8 @@ pub fn step_update_index_base<'p>(
     here: Here,
     v: Value,
 ) -> Result<Act<'p>, NoMemory>
-    ensures leads { Resumes state.old (ValueFrame.UpdateIndexBase key.entry up prefix here) v result state.new }
-    ensures falls { RankAtMost state.old 154 result state.new }
+    ensures refines { Resumes state.old (ValueFrame.UpdateIndexBase key.entry up prefix here) v result state.new }
+    ensures bounded { RankAtMost state.old 154 result state.new }
 {
     let frame = ValueFrame::UpdateIndexKey {
         base: v,
@@ -147,8 +147,8 @@ pub fn step_update_index_key<'p>(
     strict: bool,
     v: Value,
 ) -> Result<Act<'p>, NoMemory>
-    ensures leads { Resumes state.old (ValueFrame.UpdateIndexKey base up prefix strict) v result state.new }
-    ensures falls { RankAtMost state.old 150 result state.new }
+    ensures refines { Resumes state.old (ValueFrame.UpdateIndexKey base up prefix strict) v result state.new }
+    ensures bounded { RankAtMost state.old 150 result state.new }
 {
     update_expression(state, strict, up, prefix, base, v)
 }
@@ -164,8 +164,8 @@ pub fn step_update_member<'p>(
     strict: bool,
     v: Value,
 ) -> Result<Act<'p>, NoMemory>
-    ensures leads { Resumes state.old (ValueFrame.UpdateMember noted base name up prefix strict) v result state.new }
-    ensures falls { RankAtMost state.old 90 result state.new }
+    ensures refines { Resumes state.old (ValueFrame.UpdateMember noted base name up prefix strict) v result state.new }
+    ensures bounded { RankAtMost state.old 90 result state.new }
 {
     if let Value::Num(n) = &v {
         let held = Value::Num(*n);
@@ -197,9 +197,9 @@ pub fn step_update_member_primitive<'p>(
     held: Value,
     v: Value,
 ) -> Result<Act<'p>, NoMemory>
-    ensures leads { Resumes state.old (ValueFrame.UpdateMemberPrimitive noted base name up prefix strict held) v
+    ensures refines { Resumes state.old (ValueFrame.UpdateMemberPrimitive noted base name up prefix strict held) v
         result state.new }
-    ensures falls { RankAtMost state.old 64 result state.new }
+    ensures bounded { RankAtMost state.old 64 result state.new }
 {
     match next_of(up, &v) {
         Ok((n, next)) => {
@@ -222,10 +222,10 @@ fn put_next<'p>(
     next: Num,
     gives: Value,
 ) -> Result<Act<'p>, NoMemory>
-    ensures leads { Evaluates state.old (note (noting noted.emits) (noted.id.id + 1) (λ heap. op.Unary (update_kind
+    ensures refines { Evaluates state.old (note (noting noted.emits) (noted.id.id + 1) (λ heap. op.Unary (update_kind
         up) (seen_of heap held.now) (seen_of heap (value.Num next))) then (λ _. put_member (noting noted.emits)
         (noted.id.id + 2) strict base name (value.Num next) then λ _. give gives)) result state.new }
-    ensures falls { RankAtMost state.old 62 result state.new }
+    ensures bounded { RankAtMost state.old 62 result state.new }
 {
     let id = noted.id.third();
     let value = Value::Num(next);
@@ -237,7 +237,7 @@ fn put_next<'p>(
         operand: state.store.seen(held)?,
         result: state.store.seen(&value)?,
     };
-    let frame = ToldFrame::PutMember {
+    let frame = EmitFrame::PutMember {
         id,
         base,
         name,

@@ -19,14 +19,19 @@ pub fn update_name<'p>(
     prefix: bool,
     here: Here,
 ) -> Result<Act<'p>, NoMemory>
-    ensures leads { Evaluates state.old (update_name 0 (context_of state.old.calls here) name.now up prefix) result
+    ensures refines { Evaluates state.old (update_name 0 (context_of state.old.calls here) name.now up prefix) result
         state.new }
-    ensures falls { RankAtMost state.old 120 result state.new }
+    ensures bounded { RankAtMost state.old 120 result state.new }
 {
     if is_hooks(name) {
         return Ok(Act::Fault(Fault::Misuse));
     }
     let reference = state.store.identifier_reference(here.env, name);
+    if let Reference::InEnvironment(env) = reference {
+        let v = state.store.binding_value(env, name)?;
+        let bound = Reference::InEnvironment(env);
+        return step_update_name(state, name, bound, up, prefix, here.strict, v);
+    }
     state.push_value(ValueFrame::UpdateName {
         name,
         reference,
@@ -47,9 +52,9 @@ pub fn step_update_name<'p>(
     strict: bool,
     v: Value,
 ) -> Result<Act<'p>, NoMemory>
-    ensures leads { Resumes state.old (ValueFrame.UpdateName name.entry reference up prefix strict) v result
+    ensures refines { Resumes state.old (ValueFrame.UpdateName name.entry reference up prefix strict) v result
         state.new }
-    ensures falls { RankAtMost state.old 70 result state.new }
+    ensures bounded { RankAtMost state.old 70 result state.new }
 {
     if let Value::Num(n) = &v {
         let held = Value::Num(*n);
@@ -79,9 +84,9 @@ pub fn step_update_name_primitive<'p>(
     held: Value,
     v: Value,
 ) -> Result<Act<'p>, NoMemory>
-    ensures leads { Resumes state.old (ValueFrame.UpdateNamePrimitive name.entry reference up prefix strict held) v
+    ensures refines { Resumes state.old (ValueFrame.UpdateNamePrimitive name.entry reference up prefix strict held) v
         result state.new }
-    ensures falls { RankAtMost state.old 50 result state.new }
+    ensures bounded { RankAtMost state.old 50 result state.new }
 {
     match next_of(up, &v) {
         Ok((n, next)) => {

@@ -7,7 +7,7 @@ use Rattle.jl_meaning.specs.Conversions.{no_hint, to_primitive}
 use Rattle.jl_meaning.specs.Parts.{give, ◌>>=◌}
 use Rattle.jl_meaning.specs.Relations.{abstract_equality, equality_of_object, give_truth, negate_if}
 use Rattle.jl_meaning.specs.Relations.{primitive_equality}
-use Rattle.jl_state.specs.Rest.{Works}
+use Rattle.jl_state.specs.Rest.{RefinesAlgorithm}
 use Rattle.jl_state.specs.Steps.{AlgorithmWaits}
 use Rattle.jl_state.specs.declared.act.Act.{Act}
 use Rattle.jl_state.specs.declared.algorithm_frame.AlgorithmFrame.TheVariants as algorithm
@@ -35,12 +35,12 @@ of_right_object a b left right = absurd (let e = right in cc)
 
 -- a frame waits for the primitive value of an object that is compared
 pub equality_waits : (s t u : State) (object other : Value) (negative : Bool) (a : Act) → false ≡ is_nothing other
-    → AlgorithmWaits s (algorithm.EqualTo other negative) t → Works t (to_primitive no_hint object) u a
-    → Works s (negate_if negative (equality_of_object object other)) u a
-equality_waits s t u object other negative a is waits leads =
-    subst (λ (n : Bool). Works s (negate_if negative (if n then give false
+    → AlgorithmWaits s (algorithm.EqualTo other negative) t → RefinesAlgorithm t (to_primitive no_hint object) u a
+    → RefinesAlgorithm s (negate_if negative (equality_of_object object other)) u a
+equality_waits s t u object other negative a is waits refines =
+    subst (λ (n : Bool). RefinesAlgorithm s (negate_if negative (if n then give false
     else (to_primitive no_hint object >>= λ p. primitive_equality p other))) u a) is
-    (subst (λ q. Works s q u a)
+    (subst (λ q. RefinesAlgorithm s q u a)
     (chained (to_primitive no_hint object) (λ p. primitive_equality p other)
     (λ b. give_truth (if negative then not b else b)))
-    (waits.works (to_primitive no_hint object) u a leads))
+    (waits.works (to_primitive no_hint object) u a refines))

@@ -21,8 +21,8 @@ pub fn binary_result<'p>(
     a: Value,
     b: Value,
 ) -> Result<Act<'p>, NoMemory>
-    ensures leads { Computes state.old (binary_result op a b) result state.new }
-    ensures falls { RankAtMost state.old 40 result state.new }
+    ensures refines { Computes state.old (binary_result op a b) result state.new }
+    ensures bounded { RankAtMost state.old 40 result state.new }
 {
     match op {
         BinOp::Add => sum(state, a, b),

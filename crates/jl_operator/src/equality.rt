@@ -7,7 +7,7 @@ ghost use Rattle.jl_meaning.specs.Relations.{abstract_equality, equality_of_obje
 ghost use Rattle.jl_meaning.specs.Relations.{primitive_equality};
 ghost use Rattle.jl_state.specs.Clauses.{Computes, RankAtMost, ResumesAlgorithm};
 ghost use Rattle.jl_state.specs.Rank.{rank_act};
-ghost use Rattle.jl_state.specs.Rest.{Works};
+ghost use Rattle.jl_state.specs.Rest.{RefinesAlgorithm};
 ghost use Rattle.jl_state.specs.declared.state.State.{State as Machine};
 
 use jl_algorithm::to_primitive;
@@ -30,7 +30,8 @@ fn loosely_equal(a: &Value, b: &Value) -> Result<bool, NumberOutside>
 
 /// An equality of values that need no conversion of an object, or its negation.
 fn equal_primitives<'p>(is_negative: bool, a: &Value, b: &Value) -> Act<'p>
-    ensures leads { (s : Machine) → Works s (negate_if is_negative (primitive_equality a.now b.now)) s result }
+    ensures refines { (s : Machine) → RefinesAlgorithm s (negate_if is_negative (primitive_equality a.now b.now)) s
+        result }
     ensures low { rank_act result ≤ 2 }
 {
     match loosely_equal(a, b) {
@@ -46,8 +47,8 @@ pub fn step_equal_to<'p>(
     is_negative: bool,
     v: Value,
 ) -> Result<Act<'p>, NoMemory>
-    ensures leads { ResumesAlgorithm state.old (AlgorithmFrame.EqualTo other is_negative) v result state.new }
-    ensures falls { RankAtMost state.old 5 result state.new }
+    ensures refines { ResumesAlgorithm state.old (AlgorithmFrame.EqualTo other is_negative) v result state.new }
+    ensures bounded { RankAtMost state.old 5 result state.new }
 {
     Ok(equal_primitives(is_negative, &v, &other))
 }
@@ -59,8 +60,8 @@ fn equal_object<'p>(
     object: Value,
     other: Value,
 ) -> Result<Act<'p>, NoMemory>
-    ensures leads { Computes state.old (negate_if is_negative (equality_of_object object other)) result state.new }
-    ensures falls { RankAtMost state.old 30 result state.new }
+    ensures refines { Computes state.old (negate_if is_negative (equality_of_object object other)) result state.new }
+    ensures bounded { RankAtMost state.old 30 result state.new }
 {
     if is_nothing(&other) {
         return Ok(Act::Give(Value::Bool(is_negative)));
@@ -77,8 +78,8 @@ fn object_equals<'p>(
     b: Value,
 ) -> Result<Act<'p>, NoMemory>
     requires { is_object a ≡ true }
-    ensures leads { Computes state.old (negate_if is_negative (abstract_equality a b)) result state.new }
-    ensures falls { RankAtMost state.old 40 result state.new }
+    ensures refines { Computes state.old (negate_if is_negative (abstract_equality a b)) result state.new }
+    ensures bounded { RankAtMost state.old 40 result state.new }
 {
     if is_object(&b) {
         Ok(equal_primitives(is_negative, &a, &b))
@@ -95,8 +96,8 @@ fn primitive_equals<'p>(
     b: Value,
 ) -> Result<Act<'p>, NoMemory>
     requires { is_object a ≡ false }
-    ensures leads { Computes state.old (negate_if is_negative (abstract_equality a b)) result state.new }
-    ensures falls { RankAtMost state.old 40 result state.new }
+    ensures refines { Computes state.old (negate_if is_negative (abstract_equality a b)) result state.new }
+    ensures bounded { RankAtMost state.old 40 result state.new }
 {
     if is_object(&b) {
         equal_object(state, is_negative, b, a)
@@ -112,8 +113,8 @@ pub(crate) fn equal<'p>(
     a: Value,
     b: Value,
 ) -> Result<Act<'p>, NoMemory>
-    ensures leads { Computes state.old (negate_if is_negative (abstract_equality a b)) result state.new }
-    ensures falls { RankAtMost state.old 40 result state.new }
+    ensures refines { Computes state.old (negate_if is_negative (abstract_equality a b)) result state.new }
+    ensures bounded { RankAtMost state.old 40 result state.new }
 {
     if is_object(&a) {
         object_equals(state, is_negative, a, b)
@@ -124,8 +125,8 @@ pub(crate) fn equal<'p>(
 
 /// `a === b`, or its negation (11.9.4 to 11.9.6).
 pub(crate) fn strictly_equal<'p>(is_negative: bool, a: &Value, b: &Value) -> Act<'p>
-    ensures leads { (s : Machine) → Works s (give_truth (if is_negative then not (strictly_equal a.now b.now)
-        else strictly_equal a.now b.now)) s result }
+    ensures refines { (s : Machine) → RefinesAlgorithm s (give_truth (if is_negative
+        then not (strictly_equal a.now b.now) else strictly_equal a.now b.now)) s result }
     ensures low { rank_act result ≤ 2 }
 {
     Act::Give(Value::Bool(strict_equal(a, b) != is_negative))

@@ -11,8 +11,8 @@ use jl_value::{ErrorKind, ObjId, Value, is_object};
 
 /// [[HasInstance]] of a function, if it is one (15.3.5.3).
 fn has_instance<'p>(state: &mut State<'p>, f: Option<ObjId>, v: Value) -> Result<Act<'p>, NoMemory>
-    ensures leads { Computes state.old (has_instance f v) result state.new }
-    ensures falls { RankAtMost state.old 10 result state.new }
+    ensures refines { Computes state.old (has_instance f v) result state.new }
+    ensures bounded { RankAtMost state.old 10 result state.new }
 {
     let alloc = state.alloc();
     let Some(f) = f else {
@@ -28,9 +28,9 @@ fn has_instance<'p>(state: &mut State<'p>, f: Option<ObjId>, v: Value) -> Result
 
 /// Whether an object is an instance of a function with this prototype (15.3.5.3, steps 3 and 4).
 fn is_instance<'p>(state: &mut State<'p>, object: ObjId, proto: &Value) -> Result<Act<'p>, NoMemory>
-    ensures leads { Computes state.old (has_prototype state.old.store.heap (Value.Obj object) proto.now) result
+    ensures refines { Computes state.old (has_prototype state.old.store.heap (Value.Obj object) proto.now) result
         state.new }
-    ensures falls { RankAtMost state.old 5 result state.new }
+    ensures bounded { RankAtMost state.old 5 result state.new }
 {
     match proto {
         Value::Obj(proto) => {
@@ -47,8 +47,8 @@ fn has_prototype<'p>(
     value: &Value,
     proto: &Value,
 ) -> Result<Act<'p>, NoMemory>
-    ensures leads { ResumesAlgorithm state.old (AlgorithmFrame.InstanceOf value.now) proto.now result state.new }
-    ensures falls { RankAtMost state.old 5 result state.new }
+    ensures refines { ResumesAlgorithm state.old (AlgorithmFrame.InstanceOf value.now) proto.now result state.new }
+    ensures bounded { RankAtMost state.old 5 result state.new }
 {
     match value {
         Value::Obj(object) => is_instance(state, *object, proto),
@@ -62,8 +62,8 @@ pub fn step_instance_of<'p>(
     value: Value,
     v: Value,
 ) -> Result<Act<'p>, NoMemory>
-    ensures leads { ResumesAlgorithm state.old (AlgorithmFrame.InstanceOf value) v result state.new }
-    ensures falls { RankAtMost state.old 5 result state.new }
+    ensures refines { ResumesAlgorithm state.old (AlgorithmFrame.InstanceOf value) v result state.new }
+    ensures bounded { RankAtMost state.old 5 result state.new }
 {
     has_prototype(state, &value, &v)
 }
@@ -74,8 +74,8 @@ pub(crate) fn instance_of<'p>(
     a: Value,
     b: &Value,
 ) -> Result<Act<'p>, NoMemory>
-    ensures leads { Computes state.old (instance_of a b.now) result state.new }
-    ensures falls { RankAtMost state.old 40 result state.new }
+    ensures refines { Computes state.old (instance_of a b.now) result state.new }
+    ensures bounded { RankAtMost state.old 40 result state.new }
 {
     match b {
         Value::Obj(f) => {
@@ -88,8 +88,8 @@ pub(crate) fn instance_of<'p>(
 
 /// Goes on with the name that is looked for on an object, which is converted first (11.8.7).
 pub fn step_in<'p>(state: &mut State<'p>, object: ObjId, v: Value) -> Result<Act<'p>, NoMemory>
-    ensures leads { ResumesAlgorithm state.old (AlgorithmFrame.In object) v result state.new }
-    ensures falls { RankAtMost state.old 5 result state.new }
+    ensures refines { ResumesAlgorithm state.old (AlgorithmFrame.In object) v result state.new }
+    ensures bounded { RankAtMost state.old 5 result state.new }
 {
     let alloc = state.alloc();
     let name = text_of(alloc, &v)?;
@@ -98,8 +98,8 @@ pub fn step_in<'p>(state: &mut State<'p>, object: ObjId, v: Value) -> Result<Act
 
 /// A name is converted, and looked for on an object.
 fn convert_name<'p>(state: &mut State<'p>, name: Value, object: ObjId) -> Result<Act<'p>, NoMemory>
-    ensures leads { Computes state.old (in_object name (Value.Obj object)) result state.new }
-    ensures falls { RankAtMost state.old 40 result state.new }
+    ensures refines { Computes state.old (in_object name (Value.Obj object)) result state.new }
+    ensures bounded { RankAtMost state.old 40 result state.new }
 {
     state.push_algorithm(AlgorithmFrame::In { object })?;
     to_primitive(state, name, Hint::Text)
@@ -107,8 +107,8 @@ fn convert_name<'p>(state: &mut State<'p>, name: Value, object: ObjId) -> Result
 
 /// `a in b` (11.8.7).
 pub(crate) fn in_object<'p>(state: &mut State<'p>, a: Value, b: &Value) -> Result<Act<'p>, NoMemory>
-    ensures leads { Computes state.old (in_object a b.now) result state.new }
-    ensures falls { RankAtMost state.old 40 result state.new }
+    ensures refines { Computes state.old (in_object a b.now) result state.new }
+    ensures bounded { RankAtMost state.old 40 result state.new }
 {
     match b {
         Value::Obj(object) => convert_name(state, a, *object),

@@ -8,7 +8,7 @@ ghost use Rattle.jl_meaning.specs.Parts.{◌>>=◌ as ◌then◌};
 ghost use Rattle.jl_state.specs.AlgorithmFrames.{number_result};
 ghost use Rattle.jl_state.specs.Clauses.{Computes, RankAtMost, ResumesAlgorithm};
 ghost use Rattle.jl_state.specs.Rank.{rank_act};
-ghost use Rattle.jl_state.specs.Rest.{Works};
+ghost use Rattle.jl_state.specs.Rest.{RefinesAlgorithm};
 ghost use Rattle.jl_state.specs.declared.state.State.{State as Machine};
 
 use jl_algorithm::to_primitive;
@@ -31,7 +31,7 @@ pub fn number_of(p: &Value) -> Result<Num, NumberOutside>
 
 /// The number is given that an operator came to.
 pub(crate) fn give_number<'p>(outcome: Result<Num, NumberOutside>) -> Act<'p>
-    ensures leads { (s : Machine) → Works s (give_number (result_ok outcome)) s result }
+    ensures refines { (s : Machine) → RefinesAlgorithm s (give_number (result_ok outcome)) s result }
     ensures low { rank_act result ≤ 2 }
 {
     match outcome {
@@ -66,9 +66,9 @@ fn with_left<'p>(
     left: Num,
     right: Value,
 ) -> Result<Act<'p>, NoMemory>
-    ensures leads { Computes state.old (to_number right then (λ y. give_number (number_result op left y))) result
+    ensures refines { Computes state.old (to_number right then (λ y. give_number (number_result op left y))) result
         state.new }
-    ensures falls { RankAtMost state.old 22 result state.new }
+    ensures bounded { RankAtMost state.old 22 result state.new }
 {
     if is_object(&right) {
         state.push_algorithm(AlgorithmFrame::RightNumber { op, left })?;
@@ -85,8 +85,8 @@ pub fn step_left_number<'p>(
     right: Value,
     v: Value,
 ) -> Result<Act<'p>, NoMemory>
-    ensures leads { ResumesAlgorithm state.old (AlgorithmFrame.LeftNumber op right) v result state.new }
-    ensures falls { RankAtMost state.old 22 result state.new }
+    ensures refines { ResumesAlgorithm state.old (AlgorithmFrame.LeftNumber op right) v result state.new }
+    ensures bounded { RankAtMost state.old 22 result state.new }
 {
     match number_of(&v) {
         Ok(x) => with_left(state, op, x, right),
@@ -101,8 +101,8 @@ pub fn step_right_number<'p>(
     left: Num,
     v: Value,
 ) -> Result<Act<'p>, NoMemory>
-    ensures leads { ResumesAlgorithm state.old (AlgorithmFrame.RightNumber op left) v result state.new }
-    ensures falls { RankAtMost state.old 5 result state.new }
+    ensures refines { ResumesAlgorithm state.old (AlgorithmFrame.RightNumber op left) v result state.new }
+    ensures bounded { RankAtMost state.old 5 result state.new }
 {
     match number_of(&v) {
         Ok(y) => Ok(give_number(number_result(op, left, y))),
@@ -118,8 +118,8 @@ pub(crate) fn on_numbers<'p>(
     a: Value,
     b: Value,
 ) -> Result<Act<'p>, NoMemory>
-    ensures leads { Computes state.old (on_numbers (number_result op) a b) result state.new }
-    ensures falls { RankAtMost state.old 40 result state.new }
+    ensures refines { Computes state.old (on_numbers (number_result op) a b) result state.new }
+    ensures bounded { RankAtMost state.old 40 result state.new }
 {
     if is_object(&a) {
         state.push_algorithm(AlgorithmFrame::LeftNumber { op, right: b })?;

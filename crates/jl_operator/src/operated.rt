@@ -6,15 +6,15 @@ ghost use Rattle.jl_heap.specs.Objects.{Objects};
 ghost use Rattle.jl_meaning.specs.Parts.{give};
 ghost use Rattle.jl_meaning.specs.forms.Operators.{operate, operate_on};
 ghost use Rattle.jl_state.specs.Clauses.{Evaluates, RankAtMost, Resumes};
-ghost use Rattle.jl_state.specs.ToldFrames.{told_after};
-ghost use Rattle.jl_state.specs.Rank.{rank_told};
+ghost use Rattle.jl_state.specs.EmitFrames.{emit_after};
+ghost use Rattle.jl_state.specs.Rank.{rank_emit};
 ghost use Rattle.jl_state.specs.Words.{noting};
 
 use crate::binary::binary_result;
 use crate::unary::unary_result;
 use jl_ast::BinOp;
 use jl_op::{Found, Op, OpId, UnKind};
-use jl_state::{Act, Boxed, Frame, State, ToldFrame, ValueFrame};
+use jl_state::{Act, Boxed, EmitFrame, Frame, State, ValueFrame};
 use jl_text::{NoMemory, Text};
 use jl_value::{ObjId, Value, share};
 
@@ -24,10 +24,10 @@ pub fn emit_for<'p>(
     state: &mut State<'p>,
     id: OpId,
     op: Op,
-    frame: ToldFrame,
+    frame: EmitFrame,
 ) -> Result<Act<'p>, NoMemory>
-    ensures leads { Evaluates state.old (Emit (id, op) (told_after frame)) result state.new }
-    ensures falls { RankAtMost state.old (rank_told frame + 2) result state.new }
+    ensures refines { Evaluates state.old (Emit (id, op) (emit_after frame)) result state.new }
+    ensures bounded { RankAtMost state.old (rank_emit frame + 2) result state.new }
 {
     let alloc = state.alloc();
     let op = Boxed::of(alloc, op)?;
@@ -38,8 +38,8 @@ pub fn emit_for<'p>(
 /// The observer is told of an operation, and then a value is given.
 #[tactic(auto, using(crate::proofs::Operands::emits_giving))]
 pub fn emit<'p>(state: &mut State<'p>, id: OpId, op: Op, then: Value) -> Result<Act<'p>, NoMemory>
-    ensures leads { Evaluates state.old (Emit (id, op) (give then)) result state.new }
-    ensures falls { RankAtMost state.old 5 result state.new }
+    ensures refines { Evaluates state.old (Emit (id, op) (give then)) result state.new }
+    ensures bounded { RankAtMost state.old 5 result state.new }
 {
     let op = Boxed::of(state.alloc(), op)?;
     state.stack.push(Frame::Give(then))?;
@@ -55,8 +55,8 @@ pub fn step_emit_binary<'p>(
     right: Value,
     v: Value,
 ) -> Result<Act<'p>, NoMemory>
-    ensures leads { Resumes state.old (ValueFrame.EmitBinary id op left right) v result state.new }
-    ensures falls { RankAtMost state.old 6 result state.new }
+    ensures refines { Resumes state.old (ValueFrame.EmitBinary id op left right) v result state.new }
+    ensures bounded { RankAtMost state.old 6 result state.new }
 {
     let told = Op::Binary {
         op,
@@ -75,8 +75,8 @@ pub fn step_emit_unary<'p>(
     operand: Value,
     v: Value,
 ) -> Result<Act<'p>, NoMemory>
-    ensures leads { Resumes state.old (ValueFrame.EmitUnary id op operand) v result state.new }
-    ensures falls { RankAtMost state.old 6 result state.new }
+    ensures refines { Resumes state.old (ValueFrame.EmitUnary id op operand) v result state.new }
+    ensures bounded { RankAtMost state.old 6 result state.new }
 {
     let told = Op::Unary {
         op,
@@ -95,8 +95,8 @@ pub fn step_emit_get<'p>(
     found: Found,
     v: Value,
 ) -> Result<Act<'p>, NoMemory>
-    ensures leads { Resumes state.old (ValueFrame.EmitGet id base name found) v result state.new }
-    ensures falls { RankAtMost state.old 6 result state.new }
+    ensures refines { Resumes state.old (ValueFrame.EmitGet id base name found) v result state.new }
+    ensures bounded { RankAtMost state.old 6 result state.new }
 {
     let told = Op::GetField {
         base: state.store.seen(&base)?,
@@ -114,8 +114,8 @@ pub fn step_emit_invoke<'p>(
     callee: ObjId,
     v: Value,
 ) -> Result<Act<'p>, NoMemory>
-    ensures leads { Resumes state.old (ValueFrame.EmitInvoke id callee) v result state.new }
-    ensures falls { RankAtMost state.old 6 result state.new }
+    ensures refines { Resumes state.old (ValueFrame.EmitInvoke id callee) v result state.new }
+    ensures bounded { RankAtMost state.old 6 result state.new }
 {
     let told = Op::InvokePost {
         callee,
@@ -134,8 +134,8 @@ pub fn operate<'p>(
     a: Value,
     b: Value,
 ) -> Result<Act<'p>, NoMemory>
-    ensures leads { Evaluates state.old (operate (noting emits) id.0 op a b) result state.new }
-    ensures falls { RankAtMost state.old 46 result state.new }
+    ensures refines { Evaluates state.old (operate (noting emits) id.0 op a b) result state.new }
+    ensures bounded { RankAtMost state.old 46 result state.new }
 {
     let alloc = state.alloc();
     if emits {
@@ -162,8 +162,8 @@ pub fn operate_on<'p>(
     op: UnKind,
     v: Value,
 ) -> Result<Act<'p>, NoMemory>
-    ensures leads { Evaluates state.old (operate_on (noting emits) id.0 op v) result state.new }
-    ensures falls { RankAtMost state.old 46 result state.new }
+    ensures refines { Evaluates state.old (operate_on (noting emits) id.0 op v) result state.new }
+    ensures bounded { RankAtMost state.old 46 result state.new }
 {
     let alloc = state.alloc();
     if emits {

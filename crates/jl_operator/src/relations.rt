@@ -8,7 +8,7 @@ ghost use Rattle.jl_meaning.specs.Relations.{opposite, or_false};
 ghost use Rattle.jl_state.specs.AlgorithmFrames.{algorithm_after, compare};
 ghost use Rattle.jl_state.specs.Clauses.{Computes, RankAtMost, ResumesAlgorithm};
 ghost use Rattle.jl_state.specs.Rank.{rank_act};
-ghost use Rattle.jl_state.specs.Rest.{Works};
+ghost use Rattle.jl_state.specs.Rest.{RefinesAlgorithm};
 ghost use Rattle.jl_state.specs.declared.state.State.{State as Machine};
 
 use jl_algorithm::to_primitive;
@@ -49,7 +49,7 @@ fn opposite(relation: Option<bool>) -> bool
 
 /// A relation between two primitive values.
 fn give_relation<'p>(op: BinOp, x: &Value, y: &Value) -> Act<'p>
-    ensures leads { (s : Machine) → Works s (compare op x.now y.now) s result }
+    ensures refines { (s : Machine) → RefinesAlgorithm s (compare op x.now y.now) s result }
     ensures low { rank_act result ≤ 2 }
 {
     let truth = match op {
@@ -71,8 +71,8 @@ pub fn step_right_compared<'p>(
     left: Value,
     v: Value,
 ) -> Result<Act<'p>, NoMemory>
-    ensures leads { ResumesAlgorithm state.old (AlgorithmFrame.RightCompared op left) v result state.new }
-    ensures falls { RankAtMost state.old 5 result state.new }
+    ensures refines { ResumesAlgorithm state.old (AlgorithmFrame.RightCompared op left) v result state.new }
+    ensures bounded { RankAtMost state.old 5 result state.new }
 {
     Ok(give_relation(op, &left, &v))
 }
@@ -84,8 +84,8 @@ pub fn step_left_compared<'p>(
     right: Value,
     v: Value,
 ) -> Result<Act<'p>, NoMemory>
-    ensures leads { ResumesAlgorithm state.old (AlgorithmFrame.LeftCompared op right) v result state.new }
-    ensures falls { RankAtMost state.old 22 result state.new }
+    ensures refines { ResumesAlgorithm state.old (AlgorithmFrame.LeftCompared op right) v result state.new }
+    ensures bounded { RankAtMost state.old 22 result state.new }
 {
     if is_object(&right) {
         state.push_algorithm(AlgorithmFrame::RightCompared { op, left: v })?;
@@ -102,9 +102,9 @@ pub(crate) fn compare<'p>(
     a: Value,
     b: Value,
 ) -> Result<Act<'p>, NoMemory>
-    ensures leads { Computes state.old (to_primitive number_hint a then algorithm_after (AlgorithmFrame.LeftCompared
+    ensures refines { Computes state.old (to_primitive number_hint a then algorithm_after (AlgorithmFrame.LeftCompared
         op b)) result state.new }
-    ensures falls { RankAtMost state.old 40 result state.new }
+    ensures bounded { RankAtMost state.old 40 result state.new }
 {
     if is_object(&a) {
         state.push_algorithm(AlgorithmFrame::LeftCompared { op, right: b })?;

@@ -8,7 +8,7 @@ ghost use Rattle.jl_num.specs.Arithmetic.{sum_of};
 ghost use Rattle.jl_operator.specs.inner.Sums.{sum_of_numbers, text_of_texts};
 ghost use Rattle.jl_state.specs.Clauses.{Computes, RankAtMost, ResumesAlgorithm};
 ghost use Rattle.jl_state.specs.Rank.{rank_act};
-ghost use Rattle.jl_state.specs.Rest.{Works};
+ghost use Rattle.jl_state.specs.Rest.{RefinesAlgorithm};
 ghost use Rattle.jl_state.specs.declared.state.State.{State as Machine};
 
 use crate::numbers::{give_number, number_of};
@@ -55,7 +55,7 @@ fn no_text(alloc: Global) -> Result<Text, NoMemory>
 
 /// Two texts, one after the other.
 fn concatenate<'p>(alloc: Global, front: &Text, back: &Text) -> Result<Act<'p>, NoMemory>
-    ensures leads { IfOk result (λ act. (s : Machine) → Works s (text_of_texts front.now back.now) s act) }
+    ensures refines { IfOk result (λ act. (s : Machine) → RefinesAlgorithm s (text_of_texts front.now back.now) s act) }
     ensures low { IfOk result (λ act. rank_act act ≤ 2) }
 {
     match Text::concat(alloc, front, back) {
@@ -67,7 +67,7 @@ fn concatenate<'p>(alloc: Global, front: &Text, back: &Text) -> Result<Act<'p>, 
 
 /// The sum of two primitive values as numbers (11.6.1, step 8).
 fn sum_of_numbers<'p>(x: &Value, y: &Value) -> Act<'p>
-    ensures leads { (s : Machine) → Works s (sum_of_numbers x.now y.now) s result }
+    ensures refines { (s : Machine) → RefinesAlgorithm s (sum_of_numbers x.now y.now) s result }
     ensures low { rank_act result ≤ 2 }
 {
     match (number_of(x), number_of(y)) {
@@ -78,7 +78,7 @@ fn sum_of_numbers<'p>(x: &Value, y: &Value) -> Act<'p>
 
 /// The sum of two primitive values (11.6.1, steps 7 and 8).
 fn sum_of_primitives<'p>(alloc: Global, x: &Value, y: &Value) -> Result<Act<'p>, NoMemory>
-    ensures leads { IfOk result (λ act. (s : Machine) → Works s (sum_of_primitives x.now y.now) s act) }
+    ensures refines { IfOk result (λ act. (s : Machine) → RefinesAlgorithm s (sum_of_primitives x.now y.now) s act) }
     ensures low { IfOk result (λ act. rank_act act ≤ 2) }
 {
     if are_texts(x, y) {
@@ -96,8 +96,8 @@ pub fn step_left_summand<'p>(
     right: Value,
     v: Value,
 ) -> Result<Act<'p>, NoMemory>
-    ensures leads { ResumesAlgorithm state.old (AlgorithmFrame.LeftSummand right) v result state.new }
-    ensures falls { RankAtMost state.old 22 result state.new }
+    ensures refines { ResumesAlgorithm state.old (AlgorithmFrame.LeftSummand right) v result state.new }
+    ensures bounded { RankAtMost state.old 22 result state.new }
 {
     if is_object(&right) {
         state.push_algorithm(AlgorithmFrame::RightSummand { left: v })?;
@@ -113,8 +113,8 @@ pub fn step_right_summand<'p>(
     left: Value,
     v: Value,
 ) -> Result<Act<'p>, NoMemory>
-    ensures leads { ResumesAlgorithm state.old (AlgorithmFrame.RightSummand left) v result state.new }
-    ensures falls { RankAtMost state.old 5 result state.new }
+    ensures refines { ResumesAlgorithm state.old (AlgorithmFrame.RightSummand left) v result state.new }
+    ensures bounded { RankAtMost state.old 5 result state.new }
 {
     let alloc = state.alloc();
     sum_of_primitives(alloc, &left, &v)
@@ -122,8 +122,8 @@ pub fn step_right_summand<'p>(
 
 /// `a + b` (11.6.1).
 pub(crate) fn sum<'p>(state: &mut State<'p>, a: Value, b: Value) -> Result<Act<'p>, NoMemory>
-    ensures leads { Computes state.old (sum a b) result state.new }
-    ensures falls { RankAtMost state.old 40 result state.new }
+    ensures refines { Computes state.old (sum a b) result state.new }
+    ensures bounded { RankAtMost state.old 40 result state.new }
 {
     if is_object(&a) {
         state.push_algorithm(AlgorithmFrame::LeftSummand { right: b })?;

@@ -7,7 +7,7 @@ ghost use Rattle.jl_meaning.specs.Parts.{◌>>=◌ as ◌then◌};
 ghost use Rattle.jl_state.specs.AlgorithmFrames.{number_operand};
 ghost use Rattle.jl_state.specs.Clauses.{Computes, RankAtMost, ResumesAlgorithm};
 ghost use Rattle.jl_state.specs.Rank.{rank_act};
-ghost use Rattle.jl_state.specs.Rest.{Works};
+ghost use Rattle.jl_state.specs.Rest.{RefinesAlgorithm};
 ghost use Rattle.jl_state.specs.declared.state.State.{State as Machine};
 
 use crate::numbers::{give_number, number_of};
@@ -33,7 +33,7 @@ pub fn next_number(op: UnKind, n: Num) -> Result<Num, NumberOutside>
 
 /// The new value of `++`, or of `--` with `UnKind::Down`, for a number that it was (11.3, 11.4.4, 11.4.5).
 pub fn give_next<'p>(op: UnKind, n: Num) -> Act<'p>
-    ensures leads { (s : Machine) → Works s (give_next op n) s result }
+    ensures refines { (s : Machine) → RefinesAlgorithm s (give_next op n) s result }
     ensures low { rank_act result ≤ 2 }
 {
     give_number(next_number(op, n))
@@ -41,7 +41,7 @@ pub fn give_next<'p>(op: UnKind, n: Num) -> Act<'p>
 
 /// What an operator makes of a number.
 fn number_operand<'p>(op: UnKind, n: Num) -> Act<'p>
-    ensures leads { (s : Machine) → Works s (number_operand op n) s result }
+    ensures refines { (s : Machine) → RefinesAlgorithm s (number_operand op n) s result }
     ensures low { rank_act result ≤ 2 }
 {
     match op {
@@ -59,8 +59,8 @@ pub fn step_number_operand<'p>(
     op: UnKind,
     v: Value,
 ) -> Result<Act<'p>, NoMemory>
-    ensures leads { ResumesAlgorithm state.old (AlgorithmFrame.NumberOperand op) v result state.new }
-    ensures falls { RankAtMost state.old 5 result state.new }
+    ensures refines { ResumesAlgorithm state.old (AlgorithmFrame.NumberOperand op) v result state.new }
+    ensures bounded { RankAtMost state.old 5 result state.new }
 {
     match number_of(&v) {
         Ok(n) => Ok(number_operand(op, n)),
@@ -70,8 +70,8 @@ pub fn step_number_operand<'p>(
 
 /// An operator on a number.
 fn on_number<'p>(state: &mut State<'p>, op: UnKind, v: Value) -> Result<Act<'p>, NoMemory>
-    ensures leads { Computes state.old (to_number v then number_operand op) result state.new }
-    ensures falls { RankAtMost state.old 40 result state.new }
+    ensures refines { Computes state.old (to_number v then number_operand op) result state.new }
+    ensures bounded { RankAtMost state.old 40 result state.new }
 {
     if is_object(&v) {
         state.push_algorithm(AlgorithmFrame::NumberOperand { op })?;
@@ -84,8 +84,8 @@ fn on_number<'p>(state: &mut State<'p>, op: UnKind, v: Value) -> Result<Act<'p>,
 /// An operator on one operand (11.3, 11.4).
 #[tactic(auto, unfolding(jl_meaning::specs::Operators::unary_result))]
 pub fn unary_result<'p>(state: &mut State<'p>, op: UnKind, v: Value) -> Result<Act<'p>, NoMemory>
-    ensures leads { Computes state.old (unary_result op v) result state.new }
-    ensures falls { RankAtMost state.old 40 result state.new }
+    ensures refines { Computes state.old (unary_result op v) result state.new }
+    ensures bounded { RankAtMost state.old 40 result state.new }
 {
     let alloc = state.alloc();
     match op {

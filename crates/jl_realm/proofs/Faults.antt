@@ -25,7 +25,7 @@ use Rattle.jl_meaning.specs.Properties.{own_or_inherited, parameter_at, paramete
 use Rattle.jl_meaning.specs.Store.{Store}
 use Rattle.jl_store.specs.Answers.{fault_seen, finish_of}
 use Rattle.jl_store.specs.Changes.{after}
-use Rattle.jl_store.specs.Comes.{leads, Comes}
+use Rattle.jl_store.specs.BigStep.{refines, BigStep}
 use Rattle.jl_store.specs.declared.answer.Finished.{Finished}
 use Rattle.jl_store.specs.declared.answer.Finished.TheVariants as ended
 use Rattle.jl_realm.specs.Global.{is_no_accessor, is_no_fault, HasGlobalObject}
@@ -41,13 +41,13 @@ Nothing = Unit {0}
 abbrev required : Bool → Algorithm Nothing
 required done = require done (codes "cannot define")
 
-required_fails : (b : Bool) (s t : Store) (f : AlgorithmFault) → leads (required b) s t (Fails f) → ⊥
+required_fails : (b : Bool) (s t : Store) (f : AlgorithmFault) → refines (required b) s t (Fails f) → ⊥
 unfolding throw_error
 required_fails true s t f first = let differ = first.0 in cc
 required_fails false s t f first = let differ = first.0 in cc
 
 -- what is required holds where nothing is thrown
-required_gives : (b : Bool) (s t : Store) → leads (required b) s t (Ends (gives tt)) → (b ≡ true) × (s ≡ t)
+required_gives : (b : Bool) (s t : Store) → refines (required b) s t (Ends (gives tt)) → (b ≡ true) × (s ≡ t)
 unfolding throw_error
 required_gives true s t first = (refl, first.1)
 required_gives false s t first = absurd (let differ = first.0 in cc)
@@ -59,33 +59,34 @@ left done x = update_mapping_if done global_object x created None >>= required
 abbrev is_defined : Store → Name → Bool
 is_defined s x = is_done (heaps.define_own_property s.heap global_object.0 x created).1
 
-created_leads : (x : Name) (s t : Store) (e : EndOf Nothing) → HasGlobalObject s → leads (create_global x) s t e
-    → leads (left (is_defined s x) x) (after (DefineProperty global_object x created) s) t e
+created_leads : (x : Name) (s t : Store) (e : EndOf Nothing) → HasGlobalObject s → refines (create_global x) s t e
+    → refines (left (is_defined s x) x) (after (DefineProperty global_object x created) s) t e
 unfolding define_own_property
 created_leads x s t e has first =
     let P = λ (k : Class).
-    leads ((with_length (is_array k && bytes_eq x length_name) created created.value
+    refines ((with_length (is_array k && bytes_eq x length_name) created created.value
     >>= (λ c. define_with_number global_object x c)) >>= required) s t e in
     let Q = λ (i : Inner).
-    leads (update_mapping_if (is_defined s x) global_object x created (parameter_at i x) >>= required)
+    refines (update_mapping_if (is_defined s x) global_object x created (parameter_at i x) >>= required)
     (after (DefineProperty global_object x created) s) t e in
     let ordinary = subst P has.ordinary.class first in
     subst Q has.ordinary.inner ordinary
 
-left_fails : (done : Bool) (x : Name) (s t : Store) (f : AlgorithmFault) → leads (left done x) s t (Fails f) → ⊥
+left_fails : (done : Bool) (x : Name) (s t : Store) (f : AlgorithmFault) → refines (left done x) s t (Fails f) → ⊥
 left_fails true x s t f first = required_fails true s t f first
 left_fails false x s t f first = required_fails false s t f first
 
-left_gives : (done : Bool) (x : Name) (s t : Store) → leads (left done x) s t (Ends (gives tt))
+left_gives : (done : Bool) (x : Name) (s t : Store) → refines (left done x) s t (Ends (gives tt))
     → (done ≡ true) × (s ≡ t)
 left_gives true x s t first = required_gives true s t first
 left_gives false x s t first = required_gives false s t first
 
-create_fails : (x : Name) (s t : Store) (f : AlgorithmFault) → HasGlobalObject s → leads (create_global x) s t (Fails f)
+create_fails : (x : Name) (s t : Store) (f : AlgorithmFault) → HasGlobalObject s
+    → refines (create_global x) s t (Fails f)
     → ⊥
 create_fails x s t f has first = left_fails (is_defined s x) x _ t f (created_leads x s t (Fails f) has first)
 
-create_gives : (x : Name) (s t : Store) → HasGlobalObject s → leads (create_global x) s t (Ends (gives tt))
+create_gives : (x : Name) (s t : Store) → HasGlobalObject s → refines (create_global x) s t (Ends (gives tt))
     → is_writable (own t.heap global_object.0 x) ≡ true
 unfolding after
 create_gives x s t has first =
@@ -94,11 +95,11 @@ create_gives x s t has first =
     (created_writable s.heap global_object.0 x has.ordinary ends.0)
 
 prepare_fails : (x : Name) (property : Option Property) (s t : Store) (f : AlgorithmFault) → HasGlobalObject s
-    → leads (prepare_global x property) s t (Fails f) → ⊥
+    → refines (prepare_global x property) s t (Fails f) → ⊥
 prepare_fails x property s t f has first = by (can_be_made_anew property) first
   where
     by : (anew : Bool)
-        → leads (if anew then create_global x else required (can_be_taken_over property)) s t (Fails f) → ⊥
+        → refines (if anew then create_global x else required (can_be_taken_over property)) s t (Fails f) → ⊥
     by true first = create_fails x s t f has first
     by false first = required_fails (can_be_taken_over property) s t f first
 
@@ -115,11 +116,11 @@ taken_over None taken = refl
 taken_over (Some (is_own, Plain v w e c)) taken = refl
 taken_over (Some (is_own, Accessor get set e c)) taken = taken
 
-created_no_accessor : (x : Name) (s t : Store) → HasGlobalObject s → leads (create_global x) s t (Ends (gives tt))
+created_no_accessor : (x : Name) (s t : Store) → HasGlobalObject s → refines (create_global x) s t (Ends (gives tt))
     → is_no_accessor (get_property t global_object.0 x) ≡ true
 unfolding get_property get_own_property
 created_no_accessor x s t has first =
-    let comes : Comes (create_global x) s t (Ends (gives tt)) = record { leads = first } in
+    let comes : BigStep (create_global x) s t (Ends (gives tt)) = record { refines = first } in
     let stays : HasGlobalObject t = global_stays comes has in
     let writes = own_writable (own t.heap global_object.0 x) (parameter_value t global_object.0 x)
     (inherited_property t global_object.0 x) (create_gives x s t has first) in
@@ -129,15 +130,15 @@ created_no_accessor x s t has first =
 
 -- a property that was made ready for a function is no accessor
 pub prepared_no_accessor : (x : Name) {s t : Store} → HasGlobalObject s
-    → Comes (prepare_global x (get_property s global_object.0 x)) s t (Ends (gives tt))
+    → BigStep (prepare_global x (get_property s global_object.0 x)) s t (Ends (gives tt))
     → is_no_accessor (get_property t global_object.0 x) ≡ true
-prepared_no_accessor x {s} {t} has comes = by (can_be_made_anew property) comes.leads
+prepared_no_accessor x {s} {t} has comes = by (can_be_made_anew property) comes.refines
   where
     property : Option Property
     property = get_property s global_object.0 x
 
     by : (anew : Bool)
-        → leads (if anew then create_global x else required (can_be_taken_over property)) s t (Ends (gives tt))
+        → refines (if anew then create_global x else required (can_be_taken_over property)) s t (Ends (gives tt))
         → is_no_accessor (get_property t global_object.0 x) ≡ true
     by true first = created_no_accessor x s t has first
     by false first =
@@ -147,8 +148,8 @@ prepared_no_accessor x {s} {t} has comes = by (can_be_made_anew property) comes.
 
 -- where one algorithm after another fails, one of the two fails
 fails_in : {A B : Type 0} (p : Algorithm A) (k : A → Algorithm B) (s t : Store) (f : AlgorithmFault)
-    → leads (p >>= k) s t (Fails f) → (leads p s t (Fails f) → ⊥)
-    → ((u : Store) (a : A) → leads p s u (Ends (gives a)) → leads (k a) u t (Fails f) → ⊥) → ⊥
+    → refines (p >>= k) s t (Fails f) → (refines p s t (Fails f) → ⊥)
+    → ((u : Store) (a : A) → refines p s u (Ends (gives a)) → refines (k a) u t (Fails f) → ⊥) → ⊥
 fails_in (End (gives a)) k s t f first here rest = rest s a (refl, refl) first
 fails_in (End (throws v)) k s t f first here rest = let differ = first.0 in cc
 fails_in (Fail g) k s t f first here rest =
@@ -164,33 +165,33 @@ fails_in (Perform o p) k s t f first here rest = absurd o
 fails_in (Emit o p) k s t f first here rest = absurd o
 
 variables_fail : (xs : List Name) (s t : Store) (f : AlgorithmFault) → HasGlobalObject s
-    → leads (declare_global_variables xs) s t (Fails f) → ⊥
+    → refines (declare_global_variables xs) s t (Fails f) → ⊥
 variables_fail [] s t f has first = let differ = first.0 in cc
 variables_fail (x ∷ xs) s t f has first =
     fails_in make (λ _. declare_global_variables xs) s t f first (by (has_property s global_object.0 x))
     (λ u a gave rest.
-    let comes : Comes make s u (Ends (gives a)) = record { leads = gave } in
+    let comes : BigStep make s u (Ends (gives a)) = record { refines = gave } in
     variables_fail xs u t f (global_stays comes has) rest)
   where
     make : Algorithm Nothing
     make = if has_property s global_object.0 x then give tt else create_global x
 
-    by : (there : Bool) → leads (if there then give tt else create_global x) s t (Fails f) → ⊥
+    by : (there : Bool) → refines (if there then give tt else create_global x) s t (Fails f) → ⊥
     by true first = let differ = first.0 in cc
     by false first = create_fails x s t f has first
 
 without_faults : {A : Type 0} (p : Algorithm A) (s t : Store) (end : Finished A)
-    → ((f : AlgorithmFault) → leads p s t (Fails f) → ⊥) → leads p s t (finish_of end) → IsTrue (is_no_fault end)
+    → ((f : AlgorithmFault) → refines p s t (Fails f) → ⊥) → refines p s t (finish_of end) → IsTrue (is_no_fault end)
 without_faults p s t (ended.Gives a) never first = refl
 without_faults p s t (ended.Throws v) never first = refl
 without_faults p s t (ended.Fails f) never first = absurd (never (fault_seen f) first)
 
 pub prepare_without_fault : (x : Name) (property : Option Property) {s t : Store} (end : Finished Nothing)
-    → HasGlobalObject s → Comes (prepare_global x property) s t (finish_of end) → IsTrue (is_no_fault end)
+    → HasGlobalObject s → BigStep (prepare_global x property) s t (finish_of end) → IsTrue (is_no_fault end)
 prepare_without_fault x property {s} {t} end has comes =
-    without_faults (prepare_global x property) s t end (λ f. prepare_fails x property s t f has) comes.leads
+    without_faults (prepare_global x property) s t end (λ f. prepare_fails x property s t f has) comes.refines
 
 pub variables_without_fault : (xs : List Name) {s t : Store} (end : Finished Nothing) → HasGlobalObject s
-    → Comes (declare_global_variables xs) s t (finish_of end) → IsTrue (is_no_fault end)
+    → BigStep (declare_global_variables xs) s t (finish_of end) → IsTrue (is_no_fault end)
 variables_without_fault xs {s} {t} end has comes =
-    without_faults (declare_global_variables xs) s t end (λ f. variables_fail xs s t f has) comes.leads
+    without_faults (declare_global_variables xs) s t end (λ f. variables_fail xs s t f has) comes.refines

@@ -28,7 +28,7 @@ use Rattle.jl_meaning.specs.Parts.{gives, throws, ◌>>=◌, Algorithm, Algorith
 use Rattle.jl_meaning.specs.Properties.{can_put, get_property, Property}
 use Rattle.jl_meaning.specs.Putting.{put, put_found, put_if, put_on}
 use Rattle.jl_meaning.specs.Store.{Store}
-use Rattle.jl_store.specs.Comes.{leads, Comes}
+use Rattle.jl_store.specs.BigStep.{refines, BigStep}
 use Rattle.jl_store.specs.Plain.{plain_code, plain_function, plain_functions}
 use Rattle.jl_store.proofs.Chains.{comes_after, comes_on, comes_thrown}
 use Rattle.jl_store.proofs.Loops.{Leaves}
@@ -41,13 +41,14 @@ EndOf A = Finish AlgorithmFault (Answer A)
 
 -- on an ordinary object nothing is converted
 defines : {s t : Store} {e : EndOf Bool} (x : Name) (change : asked.Change) → HasGlobalObject s
-    → Comes (define_with_number global_object x change) s t e → Comes (define_own_property global_object x change) s t e
+    → BigStep (define_with_number global_object x change) s t e
+    → BigStep (define_own_property global_object x change) s t e
 unfolding define_own_property
 defines {s} {t} {e} x change has comes =
     let P = λ (k : Class).
-    leads (with_length (is_array k && bytes_eq x length_name) change change.value
+    refines (with_length (is_array k && bytes_eq x length_name) change change.value
     >>= (λ c. define_with_number global_object x c)) s t e in
-    record { leads = subst P (sym has.ordinary.class) comes.leads }
+    record { refines = subst P (sym has.ordinary.class) comes.refines }
 
 put_as : (x : Name) (v : Value) (p : Option Property) → is_no_accessor p ≡ true
     → put_found global_object x v p ≡ define_own_property global_object x (put_change v p)
@@ -60,12 +61,12 @@ put_as x v (Some (is_own, Accessor get set a b)) none = absurd (let differ : fal
 pub put_done : (s t : Store) (x : Name) (v : Value) (e : EndOf Bool) → HasGlobalObject s
     → is_no_accessor (get_property s global_object.0 x) ≡ true
     → can_put (object_at s.heap global_object.0).extensible (get_property s global_object.0 x) ≡ true
-    → Comes (define_with_number global_object x (put_change v (get_property s global_object.0 x))) s t e
-    → Comes (put_on s (value.Obj global_object) x v) s t e
+    → BigStep (define_with_number global_object x (put_change v (get_property s global_object.0 x))) s t e
+    → BigStep (put_on s (value.Obj global_object) x v) s t e
 put_done s t x v e has none can comes =
     let p = get_property s global_object.0 x in
-    subst (λ b. Comes (put_if b global_object x v p) s t e) (sym can)
-    (subst (λ q. Comes q s t e) (sym (put_as x v p none)) (defines x (put_change v p) has comes))
+    subst (λ b. BigStep (put_if b global_object x v p) s t e) (sym can)
+    (subst (λ q. BigStep q s t e) (sym (put_as x v p none)) (defines x (put_change v p) has comes))
 
 -- functions of a program, from one of them on
 pub functions_from : {p : Algorithm (Unit {0})} {s t : Store} (c : Context) (i : ℕ) (fs : List Function) (f : Function)
@@ -83,40 +84,40 @@ functions_from {p} {s} {t} c i fs f before within is =
 
 -- a put, where it was asked for so much
 pub put_comes : {s t u : Store} {e : EndOf (Unit {0})} {done holds : Bool} (throwing : Bool) (x : Name) (v : Value)
-    → Comes (put_on s (value.Obj global_object) x v) s t (Ends (gives done))
-    → holds ≡ (if throwing then done else true) → Comes (require holds (codes "cannot write")) t u e
-    → Comes (put throwing (value.Obj global_object) x v) s u e
+    → BigStep (put_on s (value.Obj global_object) x v) s t (Ends (gives done))
+    → holds ≡ (if throwing then done else true) → BigStep (require holds (codes "cannot write")) t u e
+    → BigStep (put throwing (value.Obj global_object) x v) s u e
 unfolding put
 put_comes {s} {t} {u} {e} {done} {holds} throwing x v first is rest =
     let message = codes "cannot write" in
     let all = comes_on (λ d. require (if throwing then d else true) message) first
-    (subst (λ b. Comes (require b message) t u e) is rest) in
-    record { leads = all.leads }
+    (subst (λ b. BigStep (require b message) t u e) is rest) in
+    record { refines = all.refines }
 
 -- a function is bound where its property is ready
 pub bound : {s t u : Store} {e : EndOf (Unit {0})} (strict : Bool) (x : Name) (f : ObjId)
-    → Comes (prepare_global x (get_property s global_object.0 x)) s t (Ends (gives tt))
-    → Comes (put strict (value.Obj global_object) x (value.Obj f)) t u e
-    → Comes (declare_global_function strict (Some x) f) s u e
+    → BigStep (prepare_global x (get_property s global_object.0 x)) s t (Ends (gives tt))
+    → BigStep (put strict (value.Obj global_object) x (value.Obj f)) t u e
+    → BigStep (declare_global_function strict (Some x) f) s u e
 bound strict x f first rest =
     let all = comes_after first rest in
-    record { leads = all.leads }
+    record { refines = all.refines }
 
 pub bound_thrown : {s t : Store} {w : Value} (strict : Bool) (x : Name) (f : ObjId)
-    → Comes (prepare_global x (get_property s global_object.0 x)) s t (Ends (throws w))
-    → Comes (declare_global_function strict (Some x) f) s t (Ends (throws w))
+    → BigStep (prepare_global x (get_property s global_object.0 x)) s t (Ends (throws w))
+    → BigStep (declare_global_function strict (Some x) f) s t (Ends (throws w))
 bound_thrown strict x f first =
     let all = comes_thrown (λ _. put strict (value.Obj global_object) x (value.Obj f)) first in
-    record { leads = all.leads }
+    record { refines = all.refines }
 
 -- a function is made, and then declared by its name
 pub declared : {s t u : Store} {e : EndOf (Unit {0})} (c : Context) (f : Function) (id : ObjId) (name : Option Name)
     → function_name (plain_function f) ≡ name
-    → Comes (make_function c.strict c.env (plain_function f)) s t (Ends (gives id))
-    → Comes (declare_global_function c.strict name id) t u e → Comes (declare_made (plain_function f) c) s u e
+    → BigStep (make_function c.strict c.env (plain_function f)) s t (Ends (gives id))
+    → BigStep (declare_global_function c.strict name id) t u e → BigStep (declare_made (plain_function f) c) s u e
 declared {s} {t} {u} {e} c f id name is made rest =
     comes_on (λ i. declare_global_function c.strict (function_name (plain_function f)) i) made
-    (subst (λ n. Comes (declare_global_function c.strict n id) t u e) (sym is) rest)
+    (subst (λ n. BigStep (declare_global_function c.strict n id) t u e) (sym is) rest)
 
 -- the functions of a program, and then its variables
 module _ (b : Body) (fs : List Function) (is : fs ≡ (out-Body b).functions) (c : Context) where
@@ -125,24 +126,24 @@ module _ (b : Body) (fs : List Function) (is : fs ≡ (out-Body b).functions) (c
       (map_forest (λ s. 0) (view_statements (out-Body b).statements))
 
   pub program_comes : {s t u : Store} {e : EndOf (Unit {0})}
-      → Comes (declare_global_functions (plain_functions fs) c) s t (Ends (gives tt))
-      → Comes (declare_global_variables (variables (plain_code b))) t u e
-      → Comes (declare_program (plain_code b) c) s u e
+      → BigStep (declare_global_functions (plain_functions fs) c) s t (Ends (gives tt))
+      → BigStep (declare_global_variables (variables (plain_code b))) t u e
+      → BigStep (declare_program (plain_code b) c) s u e
   unfolding declare_program
   program_comes {s} {t} {u} {e} first rest =
       let functions =
-      subst (λ l. Comes (declare_global_functions (plain_functions l) c) s t (Ends (gives tt))) is first in
-      let names = subst (λ k. Comes (declare_global_variables (variables k)) t u e) (body_plain b) rest in
-      let all : Comes (declare_program code c) s u e = comes_after functions names in
-      subst (λ k. Comes (declare_program k c) s u e) (sym (body_plain b)) all
+      subst (λ l. BigStep (declare_global_functions (plain_functions l) c) s t (Ends (gives tt))) is first in
+      let names = subst (λ k. BigStep (declare_global_variables (variables k)) t u e) (body_plain b) rest in
+      let all : BigStep (declare_program code c) s u e = comes_after functions names in
+      subst (λ k. BigStep (declare_program k c) s u e) (sym (body_plain b)) all
 
   pub program_thrown : {s t : Store} {w : Value}
-      → Comes (declare_global_functions (plain_functions fs) c) s t (Ends (throws w))
-      → Comes (declare_program (plain_code b) c) s t (Ends (throws w))
+      → BigStep (declare_global_functions (plain_functions fs) c) s t (Ends (throws w))
+      → BigStep (declare_program (plain_code b) c) s t (Ends (throws w))
   unfolding declare_program
   program_thrown {s} {t} {w} first =
       let functions =
-      subst (λ l. Comes (declare_global_functions (plain_functions l) c) s t (Ends (throws w))) is first in
-      let all : Comes (declare_program code c) s t (Ends (throws w)) =
+      subst (λ l. BigStep (declare_global_functions (plain_functions l) c) s t (Ends (throws w))) is first in
+      let all : BigStep (declare_program code c) s t (Ends (throws w)) =
       comes_thrown (λ _. declare_global_variables (variables code)) functions in
-      subst (λ k. Comes (declare_program k c) s t (Ends (throws w))) (sym (body_plain b)) all
+      subst (λ k. BigStep (declare_program k c) s t (Ends (throws w))) (sym (body_plain b)) all

@@ -32,7 +32,7 @@ use Rattle.jl_meaning.specs.Intrinsics.{global_object}
 use Rattle.jl_meaning.specs.Parts.{Algorithm, AlgorithmFault, Answer}
 use Rattle.jl_meaning.specs.Store.{Store}
 use Rattle.jl_store.specs.Changes.{after}
-use Rattle.jl_store.specs.Comes.{leads, Comes}
+use Rattle.jl_store.specs.BigStep.{refines, BigStep}
 use Rattle.jl_realm.specs.Global.{HasGlobalObject, IsOrdinary}
 
 -- an ordinary object stands at this place
@@ -160,7 +160,7 @@ stays_changed (NewEnvironment outer) s at = at
 stays_changed (NewBinding env b) s at = at
 stays_changed (SetBinding env x v) s at = at
 
-stays_on : {A : Type 0} (p : Algorithm A) (s t : Store) (e : Finish AlgorithmFault (Answer A)) → leads p s t e
+stays_on : {A : Type 0} (p : Algorithm A) (s t : Store) (e : Finish AlgorithmFault (Answer A)) → refines p s t e
     → At s.heap global_object.0 → At t.heap global_object.0
 stays_on (End a) s t e first at = subst (λ (u : Store). At u.heap global_object.0) first.1 at
 stays_on (Fail f) s t e first at = subst (λ (u : Store). At u.heap global_object.0) first.1 at
@@ -172,7 +172,7 @@ stays_on (Print line p) s t e first at = absurd first
 stays_on (Perform o p) s t e first at = absurd o
 stays_on (Emit o p) s t e first at = absurd o
 
-pub global_stays : {A : Type 0} {p : Algorithm A} {s t : Store} {e : Finish AlgorithmFault (Answer A)} → Comes p s t e
+pub global_stays : {A : Type 0} {p : Algorithm A} {s t : Store} {e : Finish AlgorithmFault (Answer A)} → BigStep p s t e
     → HasGlobalObject s → HasGlobalObject t
 global_stays {A} {p} {s} {t} {e} comes has =
-    record { ordinary = (stays_on p s t e comes.leads (record { ordinary = has.ordinary })).ordinary }
+    record { ordinary = (stays_on p s t e comes.refines (record { ordinary = has.ordinary })).ordinary }

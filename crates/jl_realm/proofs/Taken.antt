@@ -1,5 +1,6 @@
 -- Changes that are left of a list of steps.
-use Rattle.std.proofs.Common.{◌≡◌, ◌∙◌, ℕ, ◌+◌, ◌<◌, true, Bool, List, ◌∷◌, ap, add-one, drop, drop-cons, get_or, length}
+use Rattle.std.proofs.Common.{◌≡◌, ◌∙◌, ℕ, ◌+◌, ◌<◌, true, Bool, List, ◌∷◌, ap, add-one, drop, drop-cons, get_or}
+use Rattle.std.proofs.Common.{length}
 use Rattle.std.proofs.Common.{subst, sym}
 use Rattle.std.specs.List.{flat_map, list_all}
 use Rattle.jl_meaning.specs.Changes.{StoreChange}

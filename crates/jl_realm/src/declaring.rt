@@ -11,7 +11,7 @@ ghost use Rattle.jl_meaning.specs.Properties.{get_property};
 ghost use Rattle.jl_meaning.specs.Putting.{put, put_on};
 ghost use Rattle.jl_scope.specs.Hoisting.{variables};
 ghost use Rattle.jl_store.specs.Answers.{ends_with, finish_of};
-ghost use Rattle.jl_store.specs.Comes.{Comes};
+ghost use Rattle.jl_store.specs.BigStep.{BigStep};
 ghost use Rattle.jl_store.specs.LookUps.{property_seen};
 ghost use Rattle.jl_store.specs.Plain.{code_in, plain_code, plain_function, plain_functions};
 ghost use Rattle.jl_realm.specs.Global.{declare_made, is_no_accessor, is_no_fault, put_change, HasGlobalObject};
@@ -36,7 +36,7 @@ pub fn declare_program(
     strict: bool,
 ) -> Result<Answer<()>, NoMemory>
     requires { HasGlobalObject store.old }
-    ensures { IfOk result (λ answer. Comes (declare_program (plain_code body.now) (code_in 0 strict)) store.old
+    ensures { IfOk result (λ answer. BigStep (declare_program (plain_code body.now) (code_in 0 strict)) store.old
         store.new (ends_with answer)) }
 {
     match declare_functions(store, body.functions.items(), strict)? {
@@ -48,7 +48,7 @@ pub fn declare_program(
 /// Declares the variables of a program (10.5, step 8).
 fn declare_variables(alloc: Global, store: &mut Store, body: &Body) -> Result<Answer<()>, NoMemory>
     requires { HasGlobalObject store.old }
-    ensures { IfOk result (λ answer. Comes (declare_global_variables (variables (plain_code body.now))) store.old
+    ensures { IfOk result (λ answer. BigStep (declare_global_variables (variables (plain_code body.now))) store.old
         store.new (ends_with answer)) }
 {
     let names = vars(alloc, body)?;
@@ -63,7 +63,7 @@ fn declare_functions(
     strict: bool,
 ) -> Result<Answer<()>, NoMemory>
     requires { HasGlobalObject store.old }
-    ensures { IfOk result (λ answer. Comes (declare_global_functions (plain_functions functions.now) (code_in 0 strict))
+    ensures { IfOk result (λ answer. BigStep (declare_global_functions (plain_functions functions.now) (code_in 0 strict))
         store.old store.new (ends_with answer)) }
 {
     for f in functions {
@@ -78,7 +78,7 @@ fn declare_functions(
 /// Makes a function of a program, and declares it.
 fn declare_function(store: &mut Store, f: &Function, strict: bool) -> Result<Answer<()>, NoMemory>
     requires { HasGlobalObject store.old }
-    ensures { IfOk result (λ answer. Comes (declare_made (plain_function f.now) (code_in 0 strict)) store.old store.new
+    ensures { IfOk result (λ answer. BigStep (declare_made (plain_function f.now) (code_in 0 strict)) store.old store.new
         (ends_with answer)) }
 {
     let id = store.make_function(strict, 0, f)?;
@@ -96,7 +96,7 @@ fn bind_function(
     f: ObjId,
 ) -> Result<Answer<()>, NoMemory>
     requires { HasGlobalObject store.old }
-    ensures { IfOk result (λ answer. Comes (declare_global_function strict (Some name.now) f) store.old store.new
+    ensures { IfOk result (λ answer. BigStep (declare_global_function strict (Some name.now) f) store.old store.new
         (ends_with answer)) }
 {
     let end = store.prepare_global(name)?;
@@ -117,7 +117,7 @@ fn put_global(
 ) -> Result<Answer<()>, NoMemory>
     requires global { HasGlobalObject store.old }
     requires no_accessor { is_no_accessor (get_property store.old global_object.0 name.now) ≡ true }
-    ensures { IfOk result (λ answer. Comes (put throwing (value.Obj global_object) name.now v) store.old store.new
+    ensures { IfOk result (λ answer. BigStep (put throwing (value.Obj global_object) name.now v) store.old store.new
         (ends_with answer)) }
 {
     let done = put_on_global(store, name, v)?;
@@ -135,7 +135,7 @@ fn is_met(throwing: bool, done: bool) -> bool
 fn put_on_global(store: &mut Store, name: &Text, v: Value) -> Result<bool, NoMemory>
     requires global { HasGlobalObject store.old }
     requires no_accessor { is_no_accessor (get_property store.old global_object.0 name.now) ≡ true }
-    ensures { IfOk result (λ done. Comes (put_on store.old (value.Obj global_object) name.now v) store.old store.new
+    ensures { IfOk result (λ done. BigStep (put_on store.old (value.Obj global_object) name.now v) store.old store.new
         (Ends (gives done))) }
 {
     let property = store.get_property(ObjId::GLOBAL, name);

@@ -17,10 +17,10 @@ use Rattle.jl_meaning.specs.Store.{Store}
 use Rattle.jl_meaning.specs.forms.Literals.{literal, literal_op}
 use Rattle.jl_value.specs.declared.ending.Completion.{Completion}
 use Rattle.jl_meaning.proofs.Binds.{bind_assoc}
-use Rattle.jl_store.specs.Comes.{Comes}
+use Rattle.jl_store.specs.BigStep.{BigStep}
 use Rattle.jl_state.specs.Clauses.{Evaluates, Executes, RankAtMost, Resumes, ResumesStatement}
-use Rattle.jl_state.specs.Rank.{Falls}
-use Rattle.jl_state.specs.Rest.{Completes, Gives}
+use Rattle.jl_state.specs.Rank.{RankedBelow}
+use Rattle.jl_state.specs.Rest.{RefinesStatement, RefinesExpression}
 use Rattle.jl_state.specs.StatementFrames.{statement_after}
 use Rattle.jl_state.specs.Steps.{Supplies, Took}
 use Rattle.jl_state.specs.ValueFrames.{value_after}
@@ -36,31 +36,31 @@ use Rattle.jl_state.proofs.Stores.{completes_comes, gives_comes}
 pub supplies_step : (s t : State) (p : Part (Answer Value)) (v : Value) → Took s t → Supplies t p v t
     → Supplies s (Step p) v t
 supplies_step s t p v took supplies = record {
-  gives = λ k u a leads. took.gives (p >>= k) u a (supplies.gives k u a leads);
-  completes = λ k u a leads. took.completes (and_then p (on_given k)) u a (supplies.completes k u a leads);
+  gives = λ k u a refines. took.gives (p >>= k) u a (supplies.gives k u a refines);
+  completes = λ k u a refines. took.completes (and_then p (on_given k)) u a (supplies.completes k u a refines);
 }
 
 -- a value
 pub supplies_given : (s : State) (v : Value) → Supplies s (give v) v s
-supplies_given s v = record { gives = λ k u a leads. leads; completes = λ k u a leads. leads }
+supplies_given s v = record { gives = λ k u a refines. refines; completes = λ k u a refines. refines }
 
 -- an algorithm that leaves the store as it is
-pub supplies_comes : (s : State) (p : Algorithm Value) (v : Value) → Comes p s.store s.store (Ends (gives v))
+pub supplies_comes : (s : State) (p : Algorithm Value) (v : Value) → BigStep p s.store s.store (Ends (gives v))
     → Supplies s (lift p) v s
 supplies_comes s p v comes = record {
-  gives = λ k u a leads. gives_comes s s refl p v k u a comes leads;
-  completes = λ k u a leads. completes_comes s s refl p v k u a comes leads;
+  gives = λ k u a refines. gives_comes s s refl p v k u a comes refines;
+  completes = λ k u a refines. completes_comes s s refl p v k u a comes refines;
 }
 
 -- a look at the store
 pub supplies_looked : (s : State) (l : Store → Part (Answer Value)) (p : Part (Answer Value)) (v : Value)
     → p ≡ l s.store → Supplies s p v s → Supplies s (Look l) v s
 supplies_looked s l p v e supplies = record {
-  gives = λ k u a leads. record {
-    is = (subst (λ q. Gives s (q >>= k) u a) e (supplies.gives k u a leads)).is;
+  gives = λ k u a refines. record {
+    is = (subst (λ q. RefinesExpression s (q >>= k) u a) e (supplies.gives k u a refines)).is;
   };
-  completes = λ k u a leads. record {
-    is = (subst (λ q. Completes s (and_then q (on_given k)) u a) e (supplies.completes k u a leads)).is;
+  completes = λ k u a refines. record {
+    is = (subst (λ q. RefinesStatement s (and_then q (on_given k)) u a) e (supplies.completes k u a refines)).is;
   };
 }
 
@@ -68,8 +68,8 @@ supplies_looked s l p v e supplies = record {
 pub supplies_performed : (s : State) (o : Operation) (p : Part (Answer Value)) (v : Value) → Supplies s p v s
     → Supplies s (Perform o p) v s
 supplies_performed s o p v supplies = record {
-  gives = λ k u a leads. record { is = (supplies.gives k u a leads).is };
-  completes = λ k u a leads. record { is = (supplies.completes k u a leads).is };
+  gives = λ k u a refines. record { is = (supplies.gives k u a refines).is };
+  completes = λ k u a refines. record { is = (supplies.completes k u a refines).is };
 }
 
 -- and one after a part, by the value of that
@@ -90,10 +90,10 @@ module _ (o : Store → Value → Operation) where
   pub supplies_noted : (s : State) (p : Part (Answer Value)) (v : Value) → Supplies s p v s
       → Supplies s (p >>= λ w. Look (λ store. Perform (o store w) (give w))) v s
   supplies_noted s p v supplies = record {
-    gives = λ k u a leads. subst (λ q. Gives s q u a) (sym (bind_assoc p noted k))
-        (supplies.gives (λ w. noted w >>= k) u a (record { is = leads.is }));
-    completes = λ k u a leads. subst (λ q. Completes s q u a) (sym (noted_completes p k))
-        (supplies.completes (λ w. Look (λ store. Perform (o store w) (k w))) u a (record { is = leads.is }));
+    gives = λ k u a refines. subst (λ q. RefinesExpression s q u a) (sym (bind_assoc p noted k))
+        (supplies.gives (λ w. noted w >>= k) u a (record { is = refines.is }));
+    completes = λ k u a refines. subst (λ q. RefinesStatement s q u a) (sym (noted_completes p k))
+        (supplies.completes (λ w. Look (λ store. Perform (o store w) (k w))) u a (record { is = refines.is }));
   }
 
 -- a literal of a primitive value (7.8)
@@ -112,54 +112,59 @@ TookOne s t = t ≡ record s { left = s.left - 1 }
 module _ (s t : State) (is : TookOne s t) (p : Part (Answer Value)) (v : Value) (supplies : Supplies s p v t) where
   -- an expression whose frame is resumed at once
   pub supplied_value : (f : ValueFrame) (u : State) (a : Act)
-      → Gives t (value_after (table_of t.functions) t.calls f v) u a
-      → Gives s (p >>= value_after (table_of s.functions) s.calls f) u a
-  supplied_value f u a leads =
+      → RefinesExpression t (value_after (table_of t.functions) t.calls f v) u a
+      → RefinesExpression s (p >>= value_after (table_of s.functions) s.calls f) u a
+  supplied_value f u a refines =
       supplies.gives (value_after (table_of s.functions) s.calls f) u a
-      (subst (λ c. Gives t (value_after (table_of s.functions) c f v) u a) (ap (λ (w : State). w.calls) is)
-      (subst (λ l. Gives t (value_after (table_of l) t.calls f v) u a) (ap (λ (w : State). w.functions) is) leads))
+      (subst (λ c. RefinesExpression t (value_after (table_of s.functions) c f v) u a) (ap (λ (w : State). w.calls) is)
+      (subst (λ l. RefinesExpression t (value_after (table_of l) t.calls f v) u a)
+      (ap (λ (w : State). w.functions) is) refines))
 
   -- a statement
   pub supplied_statement : (f : StatementFrame) (u : State) (a : Act)
-      → Completes t (statement_after (table_of t.functions) t.calls f v) u a
-      → Completes s (and_then p (on_given (statement_after (table_of s.functions) s.calls f))) u a
-  supplied_statement f u a leads =
+      → RefinesStatement t (statement_after (table_of t.functions) t.calls f v) u a
+      → RefinesStatement s (and_then p (on_given (statement_after (table_of s.functions) s.calls f))) u a
+  supplied_statement f u a refines =
       supplies.completes (statement_after (table_of s.functions) s.calls f) u a
-      (subst (λ c. Completes t (statement_after (table_of s.functions) c f v) u a) (ap (λ (w : State). w.calls) is)
-      (subst (λ l. Completes t (statement_after (table_of l) t.calls f v) u a) (ap (λ (w : State). w.functions) is)
-      leads))
+      (subst (λ c. RefinesStatement t (statement_after (table_of s.functions) c f v) u a)
+      (ap (λ (w : State). w.calls) is)
+      (subst (λ l. RefinesStatement t (statement_after (table_of l) t.calls f v) u a)
+      (ap (λ (w : State). w.functions) is)
+      refines))
 
   -- the same of what a call answers that goes on
   pub resumes_supplied : {E : Type 0} (f : ValueFrame) (r : Result Act E) (u : State) → Resumes t f v r u
       → Evaluates s (p >>= value_after (table_of s.functions) s.calls f) r u
-  resumes_supplied f r u leads =
-      IfOk-weaker r (λ a. Gives t (value_after (table_of t.functions) t.calls f v) u a)
-      (λ a. Gives s (p >>= value_after (table_of s.functions) s.calls f) u a) (λ a g. supplied_value f u a g) leads
+  resumes_supplied f r u refines =
+      IfOk-weaker r (λ a. RefinesExpression t (value_after (table_of t.functions) t.calls f v) u a)
+      (λ a. RefinesExpression s (p >>= value_after (table_of s.functions) s.calls f) u a)
+      (λ a g. supplied_value f u a g) refines
 
   pub resumes_supplied_statement : {E : Type 0} (f : StatementFrame) (r : Result Act E) (u : State)
       → ResumesStatement t f v r u
       → Executes s (and_then p (on_given (statement_after (table_of s.functions) s.calls f))) r u
-  resumes_supplied_statement f r u leads =
-      IfOk-weaker r (λ a. Completes t (statement_after (table_of t.functions) t.calls f v) u a)
-      (λ a. Completes s (and_then p (on_given (statement_after (table_of s.functions) s.calls f))) u a)
-      (λ a g. supplied_statement f u a g) leads
+  resumes_supplied_statement f r u refines =
+      IfOk-weaker r (λ a. RefinesStatement t (statement_after (table_of t.functions) t.calls f v) u a)
+      (λ a. RefinesStatement s (and_then p (on_given (statement_after (table_of s.functions) s.calls f))) u a)
+      (λ a g. supplied_statement f u a g) refines
 
   pub evaluates_supplied : {E : Type 0} (k : Value → Part (Answer Value)) (r : Result Act E) (u : State)
       → Evaluates t (k v) r u → Evaluates s (p >>= k) r u
-  evaluates_supplied k r u leads =
-      IfOk-weaker r (λ a. Gives t (k v) u a) (λ a. Gives s (p >>= k) u a) (λ a g. supplies.gives k u a g) leads
+  evaluates_supplied k r u refines =
+      IfOk-weaker r (λ a. RefinesExpression t (k v) u a) (λ a. RefinesExpression s (p >>= k) u a)
+      (λ a g. supplies.gives k u a g) refines
 
   pub executes_supplied : {E : Type 0} (k : Value → Part Completion) (r : Result Act E) (u : State)
       → Executes t (k v) r u → Executes s (and_then p (on_given k)) r u
-  executes_supplied k r u leads =
-      IfOk-weaker r (λ a. Completes t (k v) u a) (λ a. Completes s (and_then p (on_given k)) u a)
-      (λ a g. supplies.completes k u a g) leads
+  executes_supplied k r u refines =
+      IfOk-weaker r (λ a. RefinesStatement t (k v) u a) (λ a. RefinesStatement s (and_then p (on_given k)) u a)
+      (λ a g. supplies.completes k u a g) refines
 
 -- after a step, what is done may be as much as is due until the next one, whatever it was before
 
-pub falls_after_step : {n m : ℕ} (s t u : State) (a : Act) → t.left < s.left → Falls t m u a → Falls s n u a
-falls_after_step {n} {m} s t u a fewer falls =
-    let left : u.left ≤ t.left = falls.left in
+pub falls_after_step : {n m : ℕ} (s t u : State) (a : Act) → t.left < s.left → RankedBelow t m u a → RankedBelow s n u a
+falls_after_step {n} {m} s t u a fewer bounded =
+    let left : u.left ≤ t.left = bounded.left in
     record {
       left = omega arith;
       lower = λ same. absurd (omega arith);
@@ -167,6 +172,6 @@ falls_after_step {n} {m} s t u a fewer falls =
 
 pub falls_supplied : {E : Type 0} (n m : ℕ) (s t : State) (r : Result Act E) (u : State) → t.left < s.left
     → RankAtMost t m r u → RankAtMost s n r u
-falls_supplied n m s t r u fewer falls =
-    IfOk-weaker r (λ a. Falls t m u a) (λ a. Falls s n u a)
-    (λ a g. falls_after_step s t u a fewer g) falls
+falls_supplied n m s t r u fewer bounded =
+    IfOk-weaker r (λ a. RankedBelow t m u a) (λ a. RankedBelow s n u a)
+    (λ a g. falls_after_step s t u a fewer g) bounded

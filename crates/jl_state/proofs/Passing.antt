@@ -27,7 +27,7 @@ use Rattle.jl_state.specs.Handlers.{catch_handles, completion_handles, completio
 use Rattle.jl_state.specs.Handlers.{is_handler, label_handles, loop_handles, switch_handles, try_handles, IsUnwound}
 use Rattle.jl_state.specs.Handlers.{NoneHandles}
 use Rattle.jl_state.specs.Rank.{ranks}
-use Rattle.jl_state.specs.Rest.{after, passed_on, rest, rest_of, Completion-given, Given}
+use Rattle.jl_state.specs.Rest.{after, passed_on, continuation, continuation_of, Completion-given, Given}
 use Rattle.jl_state.specs.StatementFrames.{completion_after}
 use Rattle.jl_state.specs.Steps.{IsUncaught, LeavesTo}
 use Rattle.jl_state.specs.Trees.{plain_optional}
@@ -56,8 +56,8 @@ catch_takes_none f how none = none
 
 completion_takes_none : (f : CompletionFrame) (how : Completion) → completion_is_handler f ≡ false
     → completion_handles f how ≡ false
-completion_takes_none (completing.Statements rest here) how none = refl
-completion_takes_none (completing.Clauses rest here) how none = refl
+completion_takes_none (completing.Statements continuation here) how none = refl
+completion_takes_none (completing.Clauses continuation here) how none = refl
 completion_takes_none (completing.FinallyBlock before) how none = refl
 completion_takes_none (completing.TryBlock h f here) how none =
     try_takes_none (is_some h.now) (is_some f.now) how none
@@ -126,8 +126,9 @@ module _ (table : FunctionTable) (c : Context) where
 
 passes_completion : (table : FunctionTable) (calls : List Call) (f : CompletionFrame) (how : Completion)
     → is_abrupt how ≡ true → completion_handles f how ≡ false → completion_after table calls f how ≡ End how
-passes_completion table calls (completing.Statements rest here) how abrupt passes = passes_statements _ how abrupt
-passes_completion table calls (completing.Clauses rest here) how abrupt passes = passes_statements _ how abrupt
+passes_completion table calls (completing.Statements continuation here) how abrupt passes = passes_statements _ how
+    abrupt
+passes_completion table calls (completing.Clauses continuation here) how abrupt passes = passes_statements _ how abrupt
 passes_completion table calls completing.Switch how abrupt passes = ap End (passes_switch how passes)
 passes_completion table calls (completing.Labelled x) how abrupt passes = ap End (passes_label x.now how passes)
 passes_completion table calls (completing.LoopBody t) how abrupt passes = passes_loop _ _ how abrupt passes
@@ -141,10 +142,11 @@ passes_completion table calls (completing.FinallyBlock before) how abrupt passes
 -- so the rest of the run is left to the frames below
 module _ (table : FunctionTable) (how : Completion) (abrupt : is_abrupt how ≡ true) where
   abbrev follows : List Call → List Frame → Part Given → Part Completion
-  follows calls frames p = and_then p (rest table calls frames)
+  follows calls frames p = and_then p (continuation table calls frames)
 
   pub leaves : (calls : List Call) (f : Frame) (frames : List Frame) → handles f how ≡ false
-      → rest table calls (f ∷ frames) (Completion-given how) ≡ rest table calls frames (Completion-given how)
+      → continuation table calls (f ∷ frames) (Completion-given how) ≡ continuation table calls frames
+      (Completion-given how)
   leaves calls (frame.Value f) frames passes = ap (follows calls frames) (abrupt_passes how abrupt)
   leaves calls (frame.Algorithm f) frames passes = ap (follows calls frames) (abrupt_passes how abrupt)
   leaves calls (frame.Statement f) frames passes = ap (follows calls frames) (abrupt_passes how abrupt)
@@ -156,7 +158,8 @@ module _ (table : FunctionTable) (how : Completion) (abrupt : is_abrupt how ≡ 
   leaves calls frame.Body frames passes = absurd (false≢true (sym passes ∙ abrupt))
 
   pub all_leave : (calls : List Call) (above frames : List Frame) → NoneHandles how above
-      → rest table calls (above ++ frames) (Completion-given how) ≡ rest table calls frames (Completion-given how)
+      → continuation table calls (above ++ frames) (Completion-given how) ≡ continuation table calls frames
+      (Completion-given how)
   all_leave calls [] frames none = refl
   all_leave calls (f ∷ above) frames none =
       leaves calls f (above ++ frames) (All-head (λ g. handles g how ≡ false) f above none)
@@ -173,16 +176,16 @@ Leaves s how t result = MatchOption result (IsUncaught s how) (λ _. LeavesTo s 
 pub unwinding_leaves : (s t : State) (how : Completion) (result : Option ℕ) → t ≡ record s { stack = t.stack }
     → Unwinds how s.stack t.stack result → is_abrupt how ≡ true → Leaves s how t result
 unwinding_leaves s t how None others none abrupt = record {
-  is = ap (λ (l : List Frame). rest (table_of s.functions) s.calls l (Completion-given how))
+  is = ap (λ (l : List Frame). continuation (table_of s.functions) s.calls l (Completion-given how))
       (sym (append-nil s.stack))
       ∙ all_leave (table_of s.functions) how abrupt s.calls s.stack [] none.0;
 }
 unwinding_leaves s t how (Some depth) others unwound abrupt = record {
-  is = ap (λ (l : List Frame). rest (table_of s.functions) s.calls l (Completion-given how)) unwound.was
+  is = ap (λ (l : List Frame). continuation (table_of s.functions) s.calls l (Completion-given how)) unwound.was
       ∙ all_leave (table_of s.functions) how abrupt s.calls unwound.above (unwound.handler ∷ unwound.below)
       unwound.passed
-      ∙ ap (λ (l : List Frame). rest (table_of s.functions) s.calls l (Completion-given how)) (sym unwound.is)
-      ∙ sym (ap (λ (u : State). rest_of u (Completion-given how)) others);
+      ∙ ap (λ (l : List Frame). continuation (table_of s.functions) s.calls l (Completion-given how)) (sym unwound.is)
+      ∙ sym (ap (λ (u : State). continuation_of u (Completion-given how)) others);
 }
 
 -- fewer frames do less

@@ -1,5 +1,6 @@
 -- How the links of a stack lead from handler to handler.
-use Rattle.std.proofs.Common.{[], ap, arith, false, get_or, length, length-append, refl, reverse, subst, sym, take, true}
+use Rattle.std.proofs.Common.{[], ap, arith, false, get_or, length, length-append, refl, reverse, subst, sym, take}
+use Rattle.std.proofs.Common.{true}
 use Rattle.std.proofs.Common.{◌+◌, ◌++◌, ◌<◌, ◌≡◌, ◌∙◌, ◌∷◌, Bool, List, None, Option, Some, ℕ}
 use Rattle.std.specs.Prelude.{if◌then◌else◌}
 use Rattle.std.specs.List.{All}
@@ -31,7 +32,8 @@ pub record IsNearest (l : List Linked) (depth : ℕ) : Type 0 where
   pub none : NoHandlers skipped
   pub stands : depth ≡ length lower
 
-nearest_among : (x : Linked) (l : List Linked) (depth : ℕ) → (nearest_handler (frames_of l) ≡ Some depth → IsNearest l depth)
+nearest_among : (x : Linked) (l : List Linked) (depth : ℕ)
+    → (nearest_handler (frames_of l) ≡ Some depth → IsNearest l depth)
     → (b : Bool) → is_handler x.frame ≡ b
     → (if b then Some (length (frames_of l)) else nearest_handler (frames_of l)) ≡ Some depth → IsNearest (x ∷ l) depth
 nearest_among x l depth lower true is named = record {
@@ -79,7 +81,8 @@ in_memory : (items above : List Linked) (x : Linked) (below : List Linked) → r
     → items ≡ reverse below ++ x ∷ reverse above
 in_memory items above x below is =
     sym (reverse-reverse items) ∙ ap reverse is ∙ reverse-append above (x ∷ below)
-    ∙ ap (λ l. l ++ reverse above) (reverse-append (x ∷ []) below) ∙ append_assoc (reverse below) (x ∷ []) (reverse above)
+    ∙ ap (λ l. l ++ reverse above) (reverse-append (x ∷ []) below) ∙ append_assoc (reverse below) (x ∷ [])
+    (reverse above)
 
 pub lies_at : (items above : List Linked) (x : Linked) (below : List Linked) (d : Linked)
     → reverse items ≡ above ++ x ∷ below → get_or items (length below) d ≡ x

@@ -37,8 +37,8 @@ use Rattle.jl_state.specs.declared.algorithm_frame.AlgorithmFrame.TheVariants as
 use Rattle.jl_state.specs.declared.algorithm_frame.Attributes.{Attributes}
 use Rattle.jl_state.specs.declared.algorithm_frame.Hint.{Hint}
 use Rattle.jl_state.specs.declared.algorithm_frame.Hint.TheVariants as hint
-use Rattle.jl_state.specs.declared.algorithm_frame.WrittenBy.{WrittenBy}
-use Rattle.jl_state.specs.declared.algorithm_frame.WrittenBy.TheVariants as written_by
+use Rattle.jl_state.specs.declared.algorithm_frame.AfterDefine.{AfterDefine}
+use Rattle.jl_state.specs.declared.algorithm_frame.AfterDefine.TheVariants as written_by
 
 -- the method that a conversion tries first or second (8.12.8)
 abbrev pub method_name : Hint → (is_second : Bool) → Name
@@ -92,7 +92,7 @@ number_operand unary.Down n = give_next unary.Down n
 number_operand _ n = give_number (Some n)
 
 -- what follows when a property has been defined, or that was rejected
-abbrev pub after_define : WrittenBy → Bool → Algorithm Value
+abbrev pub after_define : AfterDefine → Bool → Algorithm Value
 after_define (written_by.Put throwing given) done = do
   _ ← require (if throwing then done else true) (codes "cannot write")
   give given
@@ -113,7 +113,7 @@ data_change a v = record {
 }
 
 -- the length of an array is defined, of which both conversions are done
-abbrev pub define_length : ObjId → (count : ℕ) → Attributes → WrittenBy → Number → Algorithm Value
+abbrev pub define_length : ObjId → (count : ℕ) → Attributes → AfterDefine → Number → Algorithm Value
 define_length array count attributes purpose n = do
   length ← length_within (Some (pos count)) n
   done ← define_with_number array length_name (data_change attributes length)

@@ -7,7 +7,7 @@ pub mod Rank
 pub mod Rest
 pub mod StatementFrames
 pub mod Steps
-pub mod ToldFrames
+pub mod EmitFrames
 pub mod Trees
 pub mod Turns
 pub mod ValueFrames

@@ -10,14 +10,14 @@ use Rattle.jl_state.specs.declared.statement_frame.CompletionFrame.{CompletionFr
 use Rattle.jl_state.specs.declared.statement_frame.CompletionFrame.TheVariants as completing
 use Rattle.jl_state.specs.declared.frame.Frame.{Frame}
 use Rattle.jl_state.specs.declared.frame.Frame.TheVariants as frame
-use Rattle.jl_state.specs.declared.value_frame.KeyFor.{KeyFor}
-use Rattle.jl_state.specs.declared.value_frame.KeyFor.TheVariants as key_for
+use Rattle.jl_state.specs.declared.value_frame.MemberUse.{MemberUse}
+use Rattle.jl_state.specs.declared.value_frame.MemberUse.TheVariants as key_for
 use Rattle.jl_state.specs.declared.statement_frame.Loop.{Loop}
 use Rattle.jl_state.specs.declared.statement_frame.Loop.TheVariants as loop
 use Rattle.jl_state.specs.declared.statement_frame.StatementFrame.{StatementFrame}
 use Rattle.jl_state.specs.declared.statement_frame.StatementFrame.TheVariants as statement
-use Rattle.jl_state.specs.declared.frame.ToldFrame.{ToldFrame}
-use Rattle.jl_state.specs.declared.frame.ToldFrame.TheVariants as told
+use Rattle.jl_state.specs.declared.frame.EmitFrame.{EmitFrame}
+use Rattle.jl_state.specs.declared.frame.EmitFrame.TheVariants as told
 use Rattle.jl_state.specs.declared.value_frame.ValueFrame.{ValueFrame}
 use Rattle.jl_state.specs.declared.value_frame.ValueFrame.TheVariants as waiting
 use Rattle.jl_state.specs.declared.state.State.{State}
@@ -50,12 +50,12 @@ rank_algorithm algorithm.TypeOf = 5
 rank_algorithm (algorithm.Then v) = 3
 rank_algorithm (algorithm.Builtin p) = rank_progress p
 
-abbrev pub rank_told : ToldFrame → ℕ
-rank_told (told.Put base x v strict given) = 44
-rank_told (told.PutMember id base x v strict given) = 50
-rank_told (told.Invoke id call) = 12
+abbrev pub rank_emit : EmitFrame → ℕ
+rank_emit (told.Put base x v strict given) = 44
+rank_emit (told.PutMember id base x v strict given) = 50
+rank_emit (told.Invoke id call) = 12
 
-abbrev pub rank_key : KeyFor → ℕ
+abbrev pub rank_key : MemberUse → ℕ
 rank_key (key_for.Get noted base) = 16
 rank_key (key_for.Call base args here) = 160
 rank_key (key_for.Assign base o e here) = 160
@@ -154,7 +154,7 @@ rank (frame.Value f) = rank_value f
 rank (frame.Algorithm f) = rank_algorithm f
 rank (frame.Statement f) = rank_statement f
 rank (frame.Completion f) = rank_completion f
-rank (frame.Told f) = rank_told f
+rank (frame.Told f) = rank_emit f
 rank (frame.Give v) = 3
 rank frame.Body = 3
 
@@ -170,6 +170,6 @@ rank_act act.Spent = 0
 rank_act a = 1
 
 -- no more steps are left in t, and if as many are, the act and the frames may do less than n and the frames of s
-pub record Falls (s : State) (n : ℕ) (t : State) (a : Act) : Type 0 where
+pub record RankedBelow (s : State) (n : ℕ) (t : State) (a : Act) : Type 0 where
   pub left : t.left ≤ s.left
   pub lower : t.left ≡ s.left → rank_act a + ranks t.stack < n + ranks s.stack

@@ -22,7 +22,7 @@ use Rattle.jl_meaning.specs.Statements.{execute}
 use Rattle.jl_meaning.specs.Store.{Store}
 use Rattle.jl_meaning.specs.forms.Functions.{result_of}
 use Rattle.jl_state.specs.AlgorithmFrames.{algorithm_after}
-use Rattle.jl_state.specs.ToldFrames.{told_after}
+use Rattle.jl_state.specs.EmitFrames.{emit_after}
 use Rattle.jl_state.specs.StatementFrames.{completion_after, statement_after}
 use Rattle.jl_state.specs.ValueFrames.{value_after}
 use Rattle.jl_meaning.specs.Jobs.{job}
@@ -79,7 +79,7 @@ after table calls (frame.Value f) = on_value (λ v. as_value (value_after table 
 after table calls (frame.Algorithm f) = on_value (λ v. as_value (lift (algorithm_after f v)))
 after table calls (frame.Statement f) = on_value (λ v. as_completion (statement_after table calls f v))
 after table calls (frame.Completion f) = on_completion (λ how. as_completion (completion_after table calls f how))
-after table calls (frame.Told f) = on_nothing (as_value (told_after f))
+after table calls (frame.Told f) = on_nothing (as_value (emit_after f))
 after table calls (frame.Give v) = on_nothing (as_value (give v))
 after table calls frame.Body = on_completion (λ how. as_value (result_of how))
 
@@ -94,13 +94,14 @@ end_program how =
     and_then (if_normal (completions.◌>>=◌ (note performs 1 (λ heap. op.ScriptExit)) (λ _. normal)) how) end_of
 
 -- what is done with what the innermost of the frames is handed, to the end of the program
-abbrev pub rest : FunctionTable → List Call → List Frame → Given → Part Completion
-rest table calls [] (Completion-given how) = end_program how
-rest table calls [] g = Fail Misuse
-rest table calls (f ∷ frames) g = and_then (after table calls f g) (rest table (calls_after calls f) frames)
+abbrev pub continuation : FunctionTable → List Call → List Frame → Given → Part Completion
+continuation table calls [] (Completion-given how) = end_program how
+continuation table calls [] g = Fail Misuse
+continuation table calls (f ∷ frames) g = and_then (after table calls f g)
+    (continuation table (calls_after calls f) frames)
 
-abbrev pub rest_of : State → Given → Part Completion
-rest_of s g = rest (table_of s.functions) s.calls s.stack g
+abbrev pub continuation_of : State → Given → Part Completion
+continuation_of s g = continuation (table_of s.functions) s.calls s.stack g
 
 abbrev pub run_state : (told : List Operation) → State → RunState Store Operation
 run_state told s = record { store = s.store; output = s.output; operations = []; hooks = told }
@@ -111,32 +112,32 @@ abbrev pub run_in : (kept : Operation → Bool) → (told : List Operation) → 
 run_in kept told s p = run language (quietly kept) (job (table_of s.functions)) s.left p (run_state told s)
 
 -- what comes of a state after an act
-abbrev pub rest_after : (kept : Operation → Bool) → (told : List Operation) → State → Act
+abbrev pub behaviour_after : (kept : Operation → Bool) → (told : List Operation) → State → Act
     → Outcome Store Fault Operation Completion
-rest_after kept told s (act.Evaluate e here) =
+behaviour_after kept told s (act.Evaluate e here) =
     run_in kept told s (and_then (as_value (evaluate (table_of s.functions) (plain (view_expression e.now))
-    (context_of s.calls here))) (rest_of s))
-rest_after kept told s (act.Execute t here labels) =
+    (context_of s.calls here))) (continuation_of s))
+behaviour_after kept told s (act.Execute t here labels) =
     run_in kept told s (and_then (as_completion (execute (table_of s.functions) (plain (view_statement t.now))
-    (map (λ (x : Bor (List ℕ)). x.now) labels) (context_of s.calls here))) (rest_of s))
-rest_after kept told s (act.Give v) = run_in kept told s (rest_of s (Value-given v))
-rest_after kept told s (act.Complete how) = run_in kept told s (rest_of s (Completion-given how))
-rest_after kept told s (act.Call c) =
-    run_in kept told s (Begin (CallOf (call_of c)) (λ end. rest_of s (given_of (answer_of end))))
-rest_after kept told s (act.Emit id o) = run_in kept told s (Emit (id, o) (rest_of s Nothing))
-rest_after kept told s (act.Fault fault) = Over (Fails fault) s.left (run_state told s)
-rest_after kept told s act.Spent = Spent (run_state told s)
+    (map (λ (x : Bor (List ℕ)). x.now) labels) (context_of s.calls here))) (continuation_of s))
+behaviour_after kept told s (act.Give v) = run_in kept told s (continuation_of s (Value-given v))
+behaviour_after kept told s (act.Complete how) = run_in kept told s (continuation_of s (Completion-given how))
+behaviour_after kept told s (act.Call c) =
+    run_in kept told s (Begin (CallOf (call_of c)) (λ end. continuation_of s (given_of (answer_of end))))
+behaviour_after kept told s (act.Emit id o) = run_in kept told s (Emit (id, o) (continuation_of s Nothing))
+behaviour_after kept told s (act.Fault fault) = Over (Fails fault) s.left (run_state told s)
+behaviour_after kept told s act.Spent = Spent (run_state told s)
 
 -- The act, and the state that it leaves, come to what the part p would, and the frames of s after it: a part that ends
 -- with an answer, one that ends with a completion, and an algorithm.
-pub record Gives (s : State) (p : Part (Answer Value)) (t : State) (a : Act) : Type 0 where
+pub record RefinesExpression (s : State) (p : Part (Answer Value)) (t : State) (a : Act) : Type 0 where
   pub is : (kept : Operation → Bool) (told : List Operation)
-      → rest_after kept told t a ≡ run_in kept told s (and_then (as_value p) (rest_of s))
+      → behaviour_after kept told t a ≡ run_in kept told s (and_then (as_value p) (continuation_of s))
 
-pub record Completes (s : State) (p : Part Completion) (t : State) (a : Act) : Type 0 where
+pub record RefinesStatement (s : State) (p : Part Completion) (t : State) (a : Act) : Type 0 where
   pub is : (kept : Operation → Bool) (told : List Operation)
-      → rest_after kept told t a ≡ run_in kept told s (and_then (as_completion p) (rest_of s))
+      → behaviour_after kept told t a ≡ run_in kept told s (and_then (as_completion p) (continuation_of s))
 
-pub record Works (s : State) (p : Algorithm Value) (t : State) (a : Act) : Type 0 where
+pub record RefinesAlgorithm (s : State) (p : Algorithm Value) (t : State) (a : Act) : Type 0 where
   pub is : (kept : Operation → Bool) (told : List Operation)
-      → rest_after kept told t a ≡ run_in kept told s (and_then (as_value (lift p)) (rest_of s))
+      → behaviour_after kept told t a ≡ run_in kept told s (and_then (as_value (lift p)) (continuation_of s))

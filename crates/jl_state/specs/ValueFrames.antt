@@ -42,11 +42,11 @@ use Rattle.jl_state.specs.AlgorithmFrames.{number_of_primitive}
 use Rattle.jl_state.specs.Trees.{items_left, plain, plain_forest}
 use Rattle.jl_state.specs.Words.{call_of, context_of, hook_of, noting, opener_of, pending_of}
 use Rattle.jl_state.specs.declared.calls.Call.{Call}
-use Rattle.jl_state.specs.declared.value_frame.ArgumentsFor.{ArgumentsFor}
-use Rattle.jl_state.specs.declared.value_frame.ArgumentsFor.TheVariants as arguments_for
+use Rattle.jl_state.specs.declared.value_frame.ArgumentUse.{ArgumentUse}
+use Rattle.jl_state.specs.declared.value_frame.ArgumentUse.TheVariants as arguments_for
 use Rattle.jl_state.specs.declared.frame.Here.{Here}
-use Rattle.jl_state.specs.declared.value_frame.KeyFor.{KeyFor}
-use Rattle.jl_state.specs.declared.value_frame.KeyFor.TheVariants as key_for
+use Rattle.jl_state.specs.declared.value_frame.MemberUse.{MemberUse}
+use Rattle.jl_state.specs.declared.value_frame.MemberUse.TheVariants as key_for
 use Rattle.jl_state.specs.declared.value_frame.ValueFrame.{ValueFrame}
 use Rattle.jl_state.specs.declared.value_frame.ValueFrame.TheVariants as waiting
 
@@ -64,7 +64,7 @@ module _ (table : FunctionTable) (calls : List Call) where
   values_of so_far l here = evaluate_all table 0 so_far (plain_forest (view_expressions l)) (context here)
 
   -- what is done with the name of a member
-  abbrev pub key_after : KeyFor → Name → Part (Answer Value)
+  abbrev pub key_after : MemberUse → Name → Part (Answer Value)
   key_after (key_for.Get noted base) x = get_member (noting noted.emits) noted.id.id base x
   key_after (key_for.Call base args here) x = do
     f ← get_member performs 0 base x
@@ -102,7 +102,7 @@ module _ (table : FunctionTable) (calls : List Call) where
     close table (context here) (pending_call (id.id + 1) f base) vs
 
   -- what is done with the values of arguments
-  abbrev pub arguments_after : ArgumentsFor → Here → List Value → Part (Answer Value)
+  abbrev pub arguments_after : ArgumentUse → Here → List Value → Part (Answer Value)
   arguments_after (arguments_for.Invoke callee this by_new) here vs = invoke table performs 0 callee this vs by_new
   arguments_after (arguments_for.Hook id h) here vs = Step (enter_hook (context here) id.id (hook_of h) vs)
   arguments_after (arguments_for.Opener id o second) here vs = do

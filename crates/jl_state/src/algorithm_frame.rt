@@ -24,7 +24,7 @@ pub struct Attributes {
 
 /// What a property is defined for, when it has been.
 #[derive(Drop)]
-pub enum WrittenBy {
+pub enum AfterDefine {
     /// A put (8.12.5), which throws where it isn't done and is asked to, and then gives a value.
     Put { throwing: bool, gives: Value },
     /// A builtin, which throws where it isn't done, and then gives a value.
@@ -98,14 +98,14 @@ pub enum AlgorithmFrame {
         array: ObjId,
         length: Value,
         attributes: Attributes,
-        purpose: WrittenBy,
+        purpose: Boxed<AfterDefine>,
     },
     /// And a second time.
     LengthNumber {
         array: ObjId,
         count: u32,
         attributes: Attributes,
-        purpose: WrittenBy,
+        purpose: Boxed<AfterDefine>,
     },
     /// `typeof` waits for the value of a name (11.4.3).
     TypeOf,

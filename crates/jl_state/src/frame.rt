@@ -18,7 +18,7 @@ pub struct Here {
 
 /// What follows once the observer has been told of an operation, where that is more than to give a value.
 #[derive(Drop)]
-pub enum ToldFrame {
+pub enum EmitFrame {
     /// A value is put to a member, and another one given.
     Put {
         base: Value,
@@ -50,7 +50,7 @@ pub enum Frame<'p> {
     Algorithm(AlgorithmFrame),
     Statement(StatementFrame<'p>),
     Completion(CompletionFrame<'p>),
-    Told(Boxed<ToldFrame>),
+    Told(Boxed<EmitFrame>),
     /// A value is given, once the observer has been told of an operation.
     Give(Value),
     /// The body of a function, in the innermost of the calls that are running (13.2.1).

@@ -34,7 +34,7 @@ fn completion_handles<'p>(frame: &CompletionFrame<'p>, how: &Completion) -> bool
         CompletionFrame::Clauses { .. } => false,
         CompletionFrame::Switch => switch_handles(how),
         CompletionFrame::Labelled { label } => label_handles(label, how),
-        CompletionFrame::LoopBody { turn } => loop_handles(turn.labels.items(), how),
+        CompletionFrame::LoopBody { turn } => loop_handles(turn.get().labels.items(), how),
         CompletionFrame::TryBlock { catch, finally, .. } => {
             try_handles(catch.is_some(), finally.is_some(), how)
         }

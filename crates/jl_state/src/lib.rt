@@ -19,10 +19,10 @@ mod statement_frame;
 mod value_frame;
 
 pub use act::{Act, Invocation};
-pub use algorithm_frame::{AlgorithmFrame, Attributes, Hint, WrittenBy};
+pub use algorithm_frame::{AfterDefine, AlgorithmFrame, Attributes, Hint};
 pub use boxed::Boxed;
 pub use calls::{Call, Calls};
-pub use frame::{Frame, Here, ToldFrame};
+pub use frame::{EmitFrame, Frame, Here};
 pub use handlers::{is_abrupt, is_among};
 pub use hook::{CallId, Hook, HookId, Opener, Pending};
 pub use labels::Labels;
@@ -31,4 +31,4 @@ pub use script_function::ScriptFunction;
 pub use stack::Stack;
 pub use state::State;
 pub use statement_frame::{CompletionFrame, Loop, LoopTurn, StatementFrame, Visit, Visits};
-pub use value_frame::{Arguments, ArgumentsFor, KeyFor, Noted, ValueFrame};
+pub use value_frame::{ArgumentUse, Arguments, MemberUse, Noted, ValueFrame};

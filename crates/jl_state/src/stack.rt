@@ -66,17 +66,10 @@ impl<'p> Stack<'p> {
         } else {
             below
         };
-        match self.frames.push(Linked { frame, below }) {
-            Ok(()) => {
-                self.nearest = nearest;
-                Ok(())
-            }
-            Err(full) => {
-                // One call: by `?` the proof would have a path for each kind of frame.
-                drop(full);
-                Err(NoMemory)
-            }
-        }
+        self.frames.reserve(1)?;
+        self.frames.push_reserved(Linked { frame, below });
+        self.nearest = nearest;
+        Ok(())
     }
 
     /// The innermost frame is taken off.

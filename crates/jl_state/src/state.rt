@@ -128,16 +128,16 @@ impl<'p> State<'p> {
         Ok(())
     }
 
-    /// The frames above the innermost one that handles a completion are let go. Gives the depth of that frame, counted
-    /// from 0 at the bottom of the stack, or `None` where no frame handles it, and then nothing changes. What is left to
-    /// do of an abrupt completion stays the same.
+    /// The frames above the innermost one that handles a completion are let go. Gives the depth of that frame,
+    /// counted from 0 at the bottom of the stack, or `None` where no frame handles it, and then nothing changes. What
+    /// is left to do of an abrupt completion stays the same.
     pub fn unwind(&mut self, how: &Completion) -> Option<usize>
         ensures unwound { MatchOption result (NoneHandles how.now self.old.stack × (self.new ≡ self.old))
             (λ depth. IsUnwound how.now self.old.stack self.new.stack depth) }
         ensures others { self.new ≡ record self.old { stack = self.new.stack } }
         ensures leaves { is_abrupt how.now ≡ true → MatchOption result (IsUncaught self.old how.now)
             (λ _. LeavesTo self.old how.now self.new) }
-        ensures falls { ranks self.new.stack ≤ ranks self.old.stack }
+        ensures bounded { ranks self.new.stack ≤ ranks self.old.stack }
     {
         self.stack.unwind(how)
     }
@@ -149,7 +149,7 @@ impl<'p> State<'p> {
         e: &'p Expr,
         here: Here,
     ) -> Result<Act<'p>, NoMemory>
-        ensures leads { Evaluates self.old
+        ensures refines { Evaluates self.old
             (evaluate (table_of self.old.functions) (plain (view_expression e.now)) (context_of self.old.calls here)
             then value_after (table_of self.old.functions) self.old.calls frame.entry) result self.new }
         ensures pushed { IfOk result (λ act. (act ≡ Act.Evaluate e.entry here)
@@ -166,7 +166,7 @@ impl<'p> State<'p> {
         e: &'p Expr,
         here: Here,
     ) -> Result<Act<'p>, NoMemory>
-        ensures leads { Executes self.old
+        ensures refines { Executes self.old
             (and_then (evaluate (table_of self.old.functions) (plain (view_expression e.now))
             (context_of self.old.calls here))
             (on_given (statement_after (table_of self.old.functions) self.old.calls frame.entry))) result self.new }

@@ -67,11 +67,11 @@ pub enum StatementFrame<'p> {
     /// The head of a `for`, after an initialiser or an expression (12.6.3).
     ForHead {
         rest: Remaining<'p, (Ident, Option<Expr>)>,
-        turn: LoopTurn<'p>,
+        turn: Boxed<LoopTurn<'p>>,
     },
     /// The head of a `for`, after an expression.
     ForExpression {
-        turn: LoopTurn<'p>,
+        turn: Boxed<LoopTurn<'p>>,
     },
     /// An `if` waits for its test (12.5).
     If {
@@ -88,15 +88,15 @@ pub enum StatementFrame<'p> {
     },
     /// A turn of a `for-in`, whose variable has been put.
     ForInBody {
-        turn: LoopTurn<'p>,
+        turn: Boxed<LoopTurn<'p>>,
     },
     /// A loop waits for its test.
     Test {
-        turn: LoopTurn<'p>,
+        turn: Boxed<LoopTurn<'p>>,
     },
     /// A `for` waits for its update.
     Update {
-        turn: LoopTurn<'p>,
+        turn: Boxed<LoopTurn<'p>>,
     },
     /// `return` (12.9).
     Return,
@@ -137,7 +137,7 @@ pub enum CompletionFrame<'p> {
     },
     /// A loop, of whose body a turn ends (12.6).
     LoopBody {
-        turn: LoopTurn<'p>,
+        turn: Boxed<LoopTurn<'p>>,
     },
     /// A `try` waits for its block (12.14).
     TryBlock {

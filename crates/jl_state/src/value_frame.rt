@@ -20,7 +20,7 @@ pub struct Noted {
 
 /// What a name is wanted for, of a member of this base.
 #[derive(Drop)]
-pub enum KeyFor<'p> {
+pub enum MemberUse<'p> {
     /// Its value is got.
     Get {
         noted: Noted,
@@ -79,7 +79,7 @@ pub enum KeyFor<'p> {
 
 /// What arguments are evaluated for.
 #[derive(Drop)]
-pub enum ArgumentsFor<'p> {
+pub enum ArgumentUse<'p> {
     /// A call, or with `new` a construction.
     Invoke {
         callee: Value,
@@ -105,7 +105,7 @@ pub enum ArgumentsFor<'p> {
 /// all values.
 #[derive(Drop)]
 pub struct Arguments<'p> {
-    pub purpose: ArgumentsFor<'p>,
+    pub purpose: ArgumentUse<'p>,
     pub so_far: List<Value>,
     pub rest: Remaining<'p, Expr>,
     pub here: Here,
@@ -148,7 +148,7 @@ pub enum ValueFrame<'p> {
         base: Value,
     },
     /// The key of a member as a primitive value (9.8).
-    Key(KeyFor<'p>),
+    Key(Boxed<MemberUse<'p>>),
     /// A call waits for its callee (11.2.2, 11.2.3).
     Callee {
         this: Value,
@@ -405,7 +405,7 @@ pub enum ValueFrame<'p> {
     InstancePrototype {
         function: u32,
         env: usize,
-        call: Invocation,
+        call: Boxed<Invocation>,
     },
     /// A construction waits for what the call gives.
     Constructed {

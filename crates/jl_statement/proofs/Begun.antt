@@ -6,7 +6,7 @@ use Rattle.jl_effects.specs.Effects.{Step}
 use Rattle.jl_meaning.specs.FunctionObjects.{FunctionTable}
 use Rattle.jl_meaning.specs.Parts.{Context}
 use Rattle.jl_meaning.specs.Statements.{execute}
-use Rattle.jl_state.specs.Rest.{Completes}
+use Rattle.jl_state.specs.Rest.{RefinesStatement}
 use Rattle.jl_state.specs.Steps.{RanOut, Took}
 use Rattle.jl_state.specs.Words.{context_of, table_of}
 use Rattle.jl_state.specs.declared.act.Act.{Act}
@@ -38,20 +38,20 @@ step_first table (tree.try l h f id) labels c = refl
 
 pub begins : (s t : State) (x : Tree ℕ tree.stmt) (labels : List Text) (here : Here) (u : State) (a : Act)
     → Took s t → t ≡ record s { left = s.left - 1 }
-    → Completes t (begin (table_of t.functions) t.calls x labels here) u a
-    → Completes s (execute (table_of s.functions) x labels (context_of s.calls here)) u a
-begins s t x labels here u a took is leads =
+    → RefinesStatement t (begin (table_of t.functions) t.calls x labels here) u a
+    → RefinesStatement s (execute (table_of s.functions) x labels (context_of s.calls here)) u a
+begins s t x labels here u a took is refines =
     let table = table_of s.functions in
-    subst (λ q. Completes s q u a) (sym (step_first table x labels (context_of s.calls here)))
+    subst (λ q. RefinesStatement s q u a) (sym (step_first table x labels (context_of s.calls here)))
     (took.completes (begin table s.calls x labels here) u a
-    (subst (λ c. Completes t (begin table c x labels here) u a) (ap (λ (v : State). v.calls) is)
-    (subst (λ f. Completes t (begin (table_of f) t.calls x labels here) u a) (ap (λ (v : State). v.functions) is)
-    leads)))
+    (subst (λ c. RefinesStatement t (begin table c x labels here) u a) (ap (λ (v : State). v.calls) is)
+    (subst (λ f. RefinesStatement t (begin (table_of f) t.calls x labels here) u a) (ap (λ (v : State). v.functions) is)
+    refines)))
 
 pub spent : (s t : State) (x : Tree ℕ tree.stmt) (labels : List Text) (here : Here) → RanOut s → t ≡ s
-    → Completes s (execute (table_of s.functions) x labels (context_of s.calls here)) t act.Spent
+    → RefinesStatement s (execute (table_of s.functions) x labels (context_of s.calls here)) t act.Spent
 spent s t x labels here none is =
     let table = table_of s.functions in
-    subst (λ u. Completes s (execute table x labels (context_of s.calls here)) u act.Spent) (sym is)
-    (subst (λ q. Completes s q s act.Spent) (sym (step_first table x labels (context_of s.calls here)))
+    subst (λ u. RefinesStatement s (execute table x labels (context_of s.calls here)) u act.Spent) (sym is)
+    (subst (λ q. RefinesStatement s q s act.Spent) (sym (step_first table x labels (context_of s.calls here)))
     (none.completes (begin table s.calls x labels here)))

@@ -18,7 +18,7 @@ use Rattle.jl_meaning.specs.Parts.{give, ◌>>=◌, Context, Part}
 use Rattle.jl_meaning.specs.FunctionObjects.{FunctionTable}
 use Rattle.jl_meaning.specs.forms.Names.{assign_name}
 use Rattle.jl_meaning.specs.forms.Simple.{declare_all}
-use Rattle.jl_state.specs.Rest.{Completes, Gives}
+use Rattle.jl_state.specs.Rest.{RefinesStatement, RefinesExpression}
 use Rattle.jl_state.specs.StatementFrames.{statement_after}
 use Rattle.jl_state.specs.Trees.{items_left, plain, plain_forest}
 use Rattle.jl_state.specs.Words.{context_of, table_of}
@@ -92,31 +92,33 @@ pub declares : (s t : State) (f : StatementFrame) (here : Here) (l : List Declar
     → IsFirst l first → first ≡ Some (x, e, rest) → t ≡ record s { stack = frame.Statement f ∷ s.stack }
     → ((v : Value) → statement_after (table_of s.functions) s.calls f v
     ≡ and_then (declare (table_of s.functions) (context_of s.calls here) (items_left rest)) (on_given (λ _. q)))
-    → Gives t (assign_name 0 (context_of t.calls here) x.now (evaluate (table_of t.functions)
+    → RefinesExpression t (assign_name 0 (context_of t.calls here) x.now (evaluate (table_of t.functions)
     (plain (view_expression e.now)) (context_of t.calls here))) u a
-    → Completes s (and_then (declare (table_of s.functions) (context_of s.calls here) l) (on_given (λ _. q))) u a
-declares s t f here l first x e rest q u a same found is after leads =
+    → RefinesStatement s (and_then (declare (table_of s.functions) (context_of s.calls here) l) (on_given (λ _. q))) u a
+declares s t f here l first x e rest q u a same found is after refines =
     let table = table_of s.functions in
     let c = context_of s.calls here in
     let assigned = assign_name 0 c x.now (evaluate table (plain (view_expression e.now)) c) in
     let others = declare table c (items_left rest) in
     let given = (statement_waits s t f is).gives assigned u a
-    (subst (λ d. Gives t (assign_name 0 (context_of d here) x.now (evaluate table (plain (view_expression e.now))
+    (subst (λ d. RefinesExpression t (assign_name 0 (context_of d here) x.now
+    (evaluate table (plain (view_expression e.now))
     (context_of d here))) u a) (ap (λ (v : State). v.calls) is)
-    (subst (λ g. Gives t (assign_name 0 (context_of t.calls here) x.now (evaluate (table_of g)
-    (plain (view_expression e.now)) (context_of t.calls here))) u a) (ap (λ (v : State). v.functions) is) leads)) in
-    subst (λ p. Completes s (and_then p (on_given (λ _. q))) u a)
+    (subst (λ g. RefinesExpression t (assign_name 0 (context_of t.calls here) x.now (evaluate (table_of g)
+    (plain (view_expression e.now)) (context_of t.calls here))) u a) (ap (λ (v : State). v.functions) is) refines)) in
+    subst (λ p. RefinesStatement s (and_then p (on_given (λ _. q))) u a)
     (sym (same.same table c ∙ ap (declare_from table c) found))
     (together s (assigned >>= λ _. give (tt {0})) (λ _. others) (λ _. q) u a
     (together s assigned (λ _. give (tt {0})) (λ _. and_then others (on_given (λ _. q))) u a
-    (subst (λ (k : Value → Part Completion). Completes s (and_then assigned (on_given k)) u a) (fun_ext after) given)))
+    (subst (λ (k : Value → Part Completion). RefinesStatement s (and_then assigned (on_given k)) u a)
+    (fun_ext after) given)))
 
 -- none has one
 pub declares_none : (s : State) (here : Here) (l : List Declarator) (first : Option Initialised) (q : Part Completion)
-    (t : State) (a : Act) → IsFirst l first → first ≡ None → Completes s q t a
-    → Completes s (and_then (declare (table_of s.functions) (context_of s.calls here) l) (on_given (λ _. q))) t a
-declares_none s here l first q t a is found leads =
+    (t : State) (a : Act) → IsFirst l first → first ≡ None → RefinesStatement s q t a
+    → RefinesStatement s (and_then (declare (table_of s.functions) (context_of s.calls here) l) (on_given (λ _. q))) t a
+declares_none s here l first q t a is found refines =
     let table = table_of s.functions in
     let c = context_of s.calls here in
-    subst (λ p. Completes s (and_then p (on_given (λ _. q))) t a)
-    (sym (is.same table c ∙ ap (declare_from table c) found)) leads
+    subst (λ p. RefinesStatement s (and_then p (on_given (λ _. q))) t a)
+    (sym (is.same table c ∙ ap (declare_from table c) found)) refines

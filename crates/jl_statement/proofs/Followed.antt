@@ -9,15 +9,15 @@ use Rattle.jl_effects.proofs.Chains.{and_then-assoc}
 use Rattle.jl_meaning.specs.Completions.{if_normal, normal, on_given, then_do}
 use Rattle.jl_meaning.specs.Parts.{give, continue_with, gives, throws, ◌>>=◌, Answer, Part}
 use Rattle.jl_meaning.specs.forms.Operators.{decide, decide_by}
-use Rattle.jl_state.specs.Rest.{Completes}
+use Rattle.jl_state.specs.Rest.{RefinesStatement}
 use Rattle.jl_state.specs.declared.act.Act.{Act}
 use Rattle.jl_state.specs.declared.state.State.{State}
 
 -- the value of a test is noted, which nobody is told of, and decides
 pub decided : (s : State) (v : Value) (b : Bool) (k : Bool → Part Completion) (t : State) (a : Act) → b ≡ truth_of v
-    → Completes s (k b) t a → Completes s (and_then (decide 0 v) (on_given k)) t a
+    → RefinesStatement s (k b) t a → RefinesStatement s (and_then (decide 0 v) (on_given k)) t a
 unfolding decide
-decided s v b k t a is leads = record { is = (subst (λ c. Completes s (k c) t a) is leads).is }
+decided s v b k t a is refines = record { is = (subst (λ c. RefinesStatement s (k c) t a) is refines).is }
 
 chained : {A B : Type 0} (p : Part (Answer A)) (g : A → Part (Answer B)) (k : B → Part Completion)
     → and_then (p >>= g) (on_given k) ≡ and_then p (on_given (λ v. and_then (g v) (on_given k)))
@@ -29,27 +29,27 @@ chained {A} {B} p g k = and_then-assoc p (continue_with g) (on_given k) ∙ ap (
 
 -- what follows two parts follows the second
 pub together : {A B : Type 0} (s : State) (p : Part (Answer A)) (g : A → Part (Answer B)) (k : B → Part Completion)
-    (t : State) (a : Act) → Completes s (and_then p (on_given (λ v. and_then (g v) (on_given k)))) t a
-    → Completes s (and_then (p >>= g) (on_given k)) t a
-together s p g k t a leads = subst (λ q. Completes s q t a) (sym (chained p g k)) leads
+    (t : State) (a : Act) → RefinesStatement s (and_then p (on_given (λ v. and_then (g v) (on_given k)))) t a
+    → RefinesStatement s (and_then (p >>= g) (on_given k)) t a
+together s p g k t a refines = subst (λ q. RefinesStatement s q t a) (sym (chained p g k)) refines
 
 -- the test of a loop
 pub tests : (s : State) (p : Part (Answer Value)) (k : Bool → Part Completion) (t : State) (a : Act)
-    → Completes s (and_then p (on_given (λ v. and_then (decide 0 v) (on_given k)))) t a
-    → Completes s (and_then (decide_by 0 p) (on_given k)) t a
-tests s p k t a leads = together s p (decide 0) k t a leads
+    → RefinesStatement s (and_then p (on_given (λ v. and_then (decide 0 v) (on_given k)))) t a
+    → RefinesStatement s (and_then (decide_by 0 p) (on_given k)) t a
+tests s p k t a refines = together s p (decide 0) k t a refines
 
 -- an expression whose value does not count
 pub begins_with : (s : State) (p : Part (Answer Value)) (q : Part Completion) (t : State) (a : Act)
-    → Completes s (and_then p (on_given (λ _. q))) t a
-    → Completes s (and_then (p >>= λ _. give (tt {0})) (on_given (λ _. q))) t a
-begins_with s p q t a leads = together s p (λ _. give (tt {0})) (λ _. q) t a leads
+    → RefinesStatement s (and_then p (on_given (λ _. q))) t a
+    → RefinesStatement s (and_then (p >>= λ _. give (tt {0})) (on_given (λ _. q))) t a
+begins_with s p q t a refines = together s p (λ _. give (tt {0})) (λ _. q) t a refines
 
 -- the update of a `for`
 pub updates : (s : State) (p : Part (Answer Value)) (q : Part Completion) (t : State) (a : Act)
-    → Completes s (and_then p (on_given (λ _. q))) t a
-    → Completes s (then_do (and_then p (on_given (λ _. normal))) q) t a
-updates s p q t a leads = subst (λ r. Completes s r t a) (sym same) leads
+    → RefinesStatement s (and_then p (on_given (λ _. q))) t a
+    → RefinesStatement s (then_do (and_then p (on_given (λ _. normal))) q) t a
+updates s p q t a refines = subst (λ r. RefinesStatement s r t a) (sym same) refines
   where
     each : (b : Answer Value) → and_then (on_given (λ _. normal) b) (if_normal q) ≡ on_given (λ _. q) b
     each (gives v) = refl

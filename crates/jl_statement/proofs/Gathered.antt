@@ -323,13 +323,13 @@ leaves_none heap l from at before is =
     ∙ ap all_seen (sym (dropped_none l at is))
 
 -- the next one, and what is left after it
-pub next_none : (left : List Visit) (l : List Gathered) (at : ℕ) → left ≡ all_seen (drop at l) → slice_get l at ≡ None
-    → IsNext left None
-next_none left l at is none = is ∙ ap all_seen (dropped_none l at none)
+pub next_none : (left : List Visit) (l : List Gathered) (at : ℕ) (rest : Visits) → left ≡ all_seen (drop at l)
+    → slice_get l at ≡ None → IsNext left None rest
+next_none left l at rest is none = is ∙ ap all_seen (dropped_none l at none)
 
 pub next_some : (left : List Visit) (l : List Gathered) (at : ℕ) (v : Gathered) (name : Name)
     → left ≡ all_seen (drop at l) → slice_get l at ≡ Some v → name ≡ v.name
-    → IsNext left (Some (name, record { visits = l; from = at + 1 }))
+    → IsNext left (Some name) (record { visits = l; from = at + 1 })
 next_some left l at v name is found same = (visit_of v, sym same, is ∙ ap all_seen (dropped_next l at v found))
 
 -- the same, by what was asked of the heap and of the list
@@ -337,7 +337,7 @@ pub next_found : (heap asked : Objects) (visits : Visits) (items found : List Ga
     (name : Name) → asked ≡ heap → items ≡ visits.visits
     → visits_left asked (all_seen (drop visits.from items)) ≡ all_seen (drop at items) → found ≡ visits.visits
     → at < length found → v ≡ get_or found at v → name ≡ v.name
-    → IsNext (visits_left heap (visits_seen visits)) (Some (name, record { visits = visits.visits; from = at + 1 }))
+    → IsNext (visits_left heap (visits_seen visits)) (Some name) (record visits { from = at + 1 })
 next_found heap asked visits items found at v name here first left second within is same =
     next_some (visits_left heap (visits_seen visits)) visits.visits at v name
     (subst (λ (l : List Gathered). visits_left heap (all_seen (drop visits.from l)) ≡ all_seen (drop at l)) first

@@ -7,6 +7,7 @@ pub mod Executes
 pub mod Followed
 pub mod Gathered
 pub mod Heading
+pub mod LoopKinds
 pub mod Results
 pub mod Selecting
 pub mod Trying

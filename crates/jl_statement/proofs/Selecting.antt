@@ -20,7 +20,7 @@ use Rattle.jl_meaning.specs.FunctionObjects.{FunctionTable}
 use Rattle.jl_meaning.specs.Parts.{give, Answer, Context, Part}
 use Rattle.jl_meaning.specs.Statements.{execute_all, execute_clause, execute_from, select}
 use Rattle.jl_meaning.specs.forms.Switch.{after_switch, default_of, gives_value, select_first}
-use Rattle.jl_state.specs.Rest.{Completes}
+use Rattle.jl_state.specs.Rest.{RefinesStatement}
 use Rattle.jl_state.specs.StatementFrames.{statement_after}
 use Rattle.jl_state.specs.Trees.{items_left, plain, plain_forest}
 use Rattle.jl_state.specs.Words.{context_of, table_of}
@@ -95,13 +95,13 @@ next_missing l from at before is = record {
 -- a test that gives the value of the `switch` selects its case, and any other goes on
 pub selects : (s : State) (p : Part (Answer Value)) (v : Value) (k : ℕ) (next : Part (Answer (Option ℕ)))
     (f : Option ℕ → Part Completion) (t : State) (a : Act)
-    → Completes s (and_then p (on_given (λ w. and_then (if strictly_equal v w then give (Some k) else next)
+    → RefinesStatement s (and_then p (on_given (λ w. and_then (if strictly_equal v w then give (Some k) else next)
     (on_given f)))) t a
-    → Completes s (and_then (select_first (gives_value v p) k next) (on_given f)) t a
-selects s p v k next f t a leads =
+    → RefinesStatement s (and_then (select_first (gives_value v p) k next) (on_given f)) t a
+selects s p v k next f t a refines =
     together s (gives_value v p) (λ selected. if selected then give (Some k) else next) f t a
     (together s p (λ w. give (strictly_equal v w))
-    (λ selected. and_then (if selected then give (Some k) else next) (on_given f)) t a leads)
+    (λ selected. and_then (if selected then give (Some k) else next) (on_given f)) t a refines)
 
 -- the cases before the one from which on they are executed don't count
 pub executed_from : (table : FunctionTable) (c : Context) (k : ℕ) (l : List Case)
@@ -156,108 +156,108 @@ module _ (s : State) (here : Here) (v : Value) (from : ℕ) (l : List Case) (nex
   where
     pub selects_default : (d : Option ℕ) → IsNextTest l from next → next ≡ None
         → d ≡ default_of (plain_forest (view_cases l))
-        → Completes s (run_from (table_of s.functions) (context_of s.calls here) d l) t a
-        → Completes s (select_and_run (table_of s.functions) (context_of s.calls here) v from l) t a
-    selects_default d is none default leads =
+        → RefinesStatement s (run_from (table_of s.functions) (context_of s.calls here) d l) t a
+        → RefinesStatement s (select_and_run (table_of s.functions) (context_of s.calls here) v from l) t a
+    selects_default d is none default refines =
         let table = table_of s.functions in
         let c = context_of s.calls here in
-        subst (λ p. Completes s (and_then p (on_given (run_selected table c l))) t a)
+        subst (λ p. RefinesStatement s (and_then p (on_given (run_selected table c l))) t a)
         (sym (is.same table c v ∙ ap (selected_at table c v l) none))
-        (subst (λ o. Completes s (run_from table c o l) t a) default leads)
+        (subst (λ o. RefinesStatement s (run_from table c o l) t a) default refines)
 
     pub selects_tested : (k : ℕ) (e : Bor Expr) → IsNextTest l from next → next ≡ Some (k, e)
-        → Completes s (and_then (evaluate (table_of s.functions) (plain (view_expression e.now))
+        → RefinesStatement s (and_then (evaluate (table_of s.functions) (plain (view_expression e.now))
         (context_of s.calls here)) (on_given (λ w. and_then (if strictly_equal v w then give (Some k)
         else selected_from (table_of s.functions) (context_of s.calls here) v (k + 1) l)
         (on_given (run_selected (table_of s.functions) (context_of s.calls here) l))))) t a
-        → Completes s (select_and_run (table_of s.functions) (context_of s.calls here) v from l) t a
-    selects_tested k e is tested leads =
+        → RefinesStatement s (select_and_run (table_of s.functions) (context_of s.calls here) v from l) t a
+    selects_tested k e is tested refines =
         let table = table_of s.functions in
         let c = context_of s.calls here in
-        subst (λ p. Completes s (and_then p (on_given (run_selected table c l))) t a)
+        subst (λ p. RefinesStatement s (and_then p (on_given (run_selected table c l))) t a)
         (sym (is.same table c v ∙ ap (selected_at table c v l) tested))
         (selects s (evaluate table (plain (view_expression e.now)) c) v k (selected_from table c v (k + 1) l)
-        (run_selected table c l) t a leads)
+        (run_selected table c l) t a refines)
 
 -- the value of a case decides
 
 module _ (s : State) (here : Here) (v w : Value) (k : ℕ) (l : Bor (List Case)) (t : State) (a : Act) where
   decided_case : (b : Bool) → b ≡ strictly_equal v w
-      → Completes s (and_then (if b then give (Some k)
+      → RefinesStatement s (and_then (if b then give (Some k)
       else selected_from (table_of s.functions) (context_of s.calls here) v (k + 1) l.now)
       (on_given (run_selected (table_of s.functions) (context_of s.calls here) l.now))) t a
-      → Completes s (statement_after (table_of s.functions) s.calls (statement.CaseTest v k l here) w) t a
-  decided_case b is leads =
-      subst (λ d. Completes s (and_then (if d then give (Some k)
+      → RefinesStatement s (statement_after (table_of s.functions) s.calls (statement.CaseTest v k l here) w) t a
+  decided_case b is refines =
+      subst (λ d. RefinesStatement s (and_then (if d then give (Some k)
       else selected_from (table_of s.functions) (context_of s.calls here) v (k + 1) l.now)
-      (on_given (run_selected (table_of s.functions) (context_of s.calls here) l.now))) t a) is leads
+      (on_given (run_selected (table_of s.functions) (context_of s.calls here) l.now))) t a) is refines
 
   pub case_selected : true ≡ strictly_equal v w
-      → Completes s (run_from (table_of s.functions) (context_of s.calls here) (Some k) l.now) t a
-      → Completes s (statement_after (table_of s.functions) s.calls (statement.CaseTest v k l here) w) t a
-  case_selected is leads = decided_case true is leads
+      → RefinesStatement s (run_from (table_of s.functions) (context_of s.calls here) (Some k) l.now) t a
+      → RefinesStatement s (statement_after (table_of s.functions) s.calls (statement.CaseTest v k l here) w) t a
+  case_selected is refines = decided_case true is refines
 
   pub case_passed : false ≡ strictly_equal v w
-      → Completes s (select_and_run (table_of s.functions) (context_of s.calls here) v (k + 1) l.now) t a
-      → Completes s (statement_after (table_of s.functions) s.calls (statement.CaseTest v k l here) w) t a
-  case_passed is leads = decided_case false is leads
+      → RefinesStatement s (select_and_run (table_of s.functions) (context_of s.calls here) v (k + 1) l.now) t a
+      → RefinesStatement s (statement_after (table_of s.functions) s.calls (statement.CaseTest v k l here) w) t a
+  case_passed is refines = decided_case false is refines
 
   pub case_last : (d : Option ℕ) → false ≡ strictly_equal v w → length l.now ≤ k
       → d ≡ default_of (plain_forest (view_cases l.now))
-      → Completes s (run_from (table_of s.functions) (context_of s.calls here) d l.now) t a
-      → Completes s (statement_after (table_of s.functions) s.calls (statement.CaseTest v k l here) w) t a
-  case_last d is short default leads =
+      → RefinesStatement s (run_from (table_of s.functions) (context_of s.calls here) d l.now) t a
+      → RefinesStatement s (statement_after (table_of s.functions) s.calls (statement.CaseTest v k l here) w) t a
+  case_last d is short default refines =
       let table = table_of s.functions in
       let c = context_of s.calls here in
       case_passed is
-      (subst (λ m. Completes s (and_then (select table (k + 1) (plain_forest (view_cases m)) v c)
+      (subst (λ m. RefinesStatement s (and_then (select table (k + 1) (plain_forest (view_cases m)) v c)
       (on_given (run_selected table c l.now))) t a)
       (sym (dropped_beyond l.now (k + 1) (omega (arith, short))))
-      (subst (λ o. Completes s (run_from table c o l.now) t a) default leads))
+      (subst (λ o. RefinesStatement s (run_from table c o l.now) t a) default refines))
 
 -- clauses one after another
 
 pub clauses_over : (s t : State) (l : List Case) (x : Case) (rest : Remaining Case) (here : Here) (u : State) (a : Act)
     → l ≡ x ∷ items_left rest → t ≡ record s { stack = frame.Completion (completing.Clauses rest here) ∷ s.stack }
-    → Completes t (execute_all (table_of t.functions) (plain_forest (view_statements (out-Case x).body))
+    → RefinesStatement t (execute_all (table_of t.functions) (plain_forest (view_statements (out-Case x).body))
     (context_of t.calls here)) u a
-    → Completes s (execute_from (table_of s.functions) (Some 0) (plain_forest (view_cases l))
+    → RefinesStatement s (execute_from (table_of s.functions) (Some 0) (plain_forest (view_cases l))
     (context_of s.calls here)) u a
-clauses_over s t l x rest here u a first is leads =
+clauses_over s t l x rest here u a first is refines =
     let table = table_of s.functions in
     let c = context_of s.calls here in
-    subst (λ m. Completes s (execute_from table (Some 0) (plain_forest (view_cases m)) c) u a) (sym first)
-    (subst (λ y. Completes s (then_do (execute_clause table (plain y) c)
+    subst (λ m. RefinesStatement s (execute_from table (Some 0) (plain_forest (view_cases m)) c) u a) (sym first)
+    (subst (λ y. RefinesStatement s (then_do (execute_clause table (plain y) c)
     (execute_from table (Some 0) (plain_forest (view_cases (items_left rest))) c)) u a) (sym (case_is x))
-    (statements_over s t (completing.Clauses rest here) (out-Case x).body here u a is leads))
+    (statements_over s t (completing.Clauses rest here) (out-Case x).body here u a is refines))
 
 pub from_over : (s t : State) (k : ℕ) (l : List Case) (here : Here) (u : State) (a : Act)
     → t ≡ record s { stack = frame.Completion completing.Switch ∷ s.stack }
-    → Completes t (execute_from (table_of t.functions) (Some 0) (plain_forest (view_cases (drop k l)))
+    → RefinesStatement t (execute_from (table_of t.functions) (Some 0) (plain_forest (view_cases (drop k l)))
     (context_of t.calls here)) u a
-    → Completes s (run_from (table_of s.functions) (context_of s.calls here) (Some k) l) u a
-from_over s t k l here u a is leads =
-    subst (λ p. Completes s (ends_as after_switch p) u a)
+    → RefinesStatement s (run_from (table_of s.functions) (context_of s.calls here) (Some k) l) u a
+from_over s t k l here u a is refines =
+    subst (λ p. RefinesStatement s (ends_as after_switch p) u a)
     (sym (executed_from (table_of s.functions) (context_of s.calls here) k l))
     (part_over s t completing.Switch
     (λ table calls. execute_from table (Some 0) (plain_forest (view_cases (drop k l))) (context_of calls here)) u a is
-    leads)
+    refines)
 
 pub from_selected : (s t : State) (selected : Option ℕ) (k : ℕ) (l : List Case) (here : Here) (u : State) (a : Act)
     → selected ≡ Some k → t ≡ record s { stack = frame.Completion completing.Switch ∷ s.stack }
-    → Completes t (execute_from (table_of t.functions) (Some 0) (plain_forest (view_cases (drop k l)))
+    → RefinesStatement t (execute_from (table_of t.functions) (Some 0) (plain_forest (view_cases (drop k l)))
     (context_of t.calls here)) u a
-    → Completes s (run_from (table_of s.functions) (context_of s.calls here) selected l) u a
-from_selected s t selected k l here u a some is leads =
-    subst (λ o. Completes s (run_from (table_of s.functions) (context_of s.calls here) o l) u a) (sym some)
-    (from_over s t k l here u a is leads)
+    → RefinesStatement s (run_from (table_of s.functions) (context_of s.calls here) selected l) u a
+from_selected s t selected k l here u a some is refines =
+    subst (λ o. RefinesStatement s (run_from (table_of s.functions) (context_of s.calls here) o l) u a) (sym some)
+    (from_over s t k l here u a is refines)
 
 pub from_none : (s t : State) (selected : Option ℕ) (l : List Case) (here : Here) → selected ≡ None
     → t ≡ record s { stack = frame.Completion completing.Switch ∷ s.stack }
-    → Completes s (run_from (table_of s.functions) (context_of s.calls here) selected l) t
+    → RefinesStatement s (run_from (table_of s.functions) (context_of s.calls here) selected l) t
     (act.Complete completion.Normal)
 from_none s t selected l here none is =
-    subst (λ o. Completes s (run_from (table_of s.functions) (context_of s.calls here) o l) t
+    subst (λ o. RefinesStatement s (run_from (table_of s.functions) (context_of s.calls here) o l) t
     (act.Complete completion.Normal)) (sym none)
     (part_over s t completing.Switch (λ table calls. normal) t (act.Complete completion.Normal) is
     (record { is = λ kept told. refl }))

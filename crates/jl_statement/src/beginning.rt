@@ -11,9 +11,8 @@ ghost use Rattle.jl_statement.specs.inner.Beginnings.{begin};
 
 use crate::choices::begin_if;
 use crate::executing::begin_statements;
-use crate::heads::begin_for;
+use crate::heads::{begin_for, begin_loop};
 use crate::jumps::{begin_labelled, begin_return, label_text};
-use crate::loops::begin_turn;
 use crate::switches::begin_switch;
 use crate::variables::declare_variables;
 use jl_ast::{Stmt, StmtKind};
@@ -30,9 +29,9 @@ pub fn begin_statement<'p>(
     here: Here,
     labels: Labels<'p>,
 ) -> Result<Act<'p>, NoMemory>
-    ensures leads { Executes state.old (execute (table_of state.old.functions) (plain (view_statement t.now)) (map
+    ensures refines { Executes state.old (execute (table_of state.old.functions) (plain (view_statement t.now)) (map
         (λ (x : Bor (List ℕ)). x.now) labels.entry) (context_of state.old.calls here)) result state.new }
-    ensures falls { RankAtMost state.old (1) result state.new }
+    ensures bounded { RankAtMost state.old (1) result state.new }
 {
     if !state.spend() {
         return Ok(Act::Spent);
@@ -48,7 +47,7 @@ fn begin_kind<'p>(
     here: Here,
     labels: Labels<'p>,
 ) -> Result<Act<'p>, NoMemory>
-    ensures leads { Executes state.old (begin (table_of state.old.functions) state.old.calls (plain (view_statement
+    ensures refines { Executes state.old (begin (table_of state.old.functions) state.old.calls (plain (view_statement
         t.now)) (labels_seen labels.entry) here) result state.new }
     ensures left { IfOk result (λ _. state.new.left ≤ state.old.left) }
 {
@@ -62,11 +61,11 @@ fn begin_kind<'p>(
         StmtKind::If(test, then, otherwise) => begin_if(state, test, then, otherwise, here),
         StmtKind::DoWhile(body, test) => {
             let kind = Loop::Do { body, test };
-            begin_turn(state, LoopTurn { kind, here, labels })
+            begin_loop(state, LoopTurn { kind, here, labels })
         }
         StmtKind::While(test, body) => {
             let kind = Loop::While { test, body };
-            begin_turn(state, LoopTurn { kind, here, labels })
+            begin_loop(state, LoopTurn { kind, here, labels })
         }
         StmtKind::For(init, test, update, body) => {
             let kind = Loop::For { test, update, body };

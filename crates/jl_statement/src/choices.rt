@@ -21,9 +21,9 @@ pub(crate) fn begin_branch<'p>(
     list: &'p Option<List<Stmt>>,
     here: Here,
 ) -> Result<Act<'p>, NoMemory>
-    ensures leads { Executes state.old (execute_branch (table_of state.old.functions) (plain_optional (view_branch
+    ensures refines { Executes state.old (execute_branch (table_of state.old.functions) (plain_optional (view_branch
         list.now)) (context_of state.old.calls here)) result state.new }
-    ensures falls { RankAtMost state.old 14 result state.new }
+    ensures bounded { RankAtMost state.old 14 result state.new }
 {
     match list {
         None => Ok(Act::Complete(Completion::Normal)),
@@ -39,7 +39,7 @@ pub(crate) fn begin_if<'p>(
     otherwise: &'p Option<List<Stmt>>,
     here: Here,
 ) -> Result<Act<'p>, NoMemory>
-    ensures leads { Executes state.old (value_then (table_of state.old.functions) state.old.calls test.now here
+    ensures refines { Executes state.old (value_then (table_of state.old.functions) state.old.calls test.now here
         (StatementFrame.If then.entry otherwise.entry here)) result state.new }
     ensures left { IfOk result (λ _. state.new.left ≤ state.old.left) }
 {
@@ -68,9 +68,9 @@ pub(crate) fn step_if<'p>(
     here: Here,
     v: Value,
 ) -> Result<Act<'p>, NoMemory>
-    ensures leads { ResumesStatement state.old (StatementFrame.If then.entry otherwise.entry here) v result
+    ensures refines { ResumesStatement state.old (StatementFrame.If then.entry otherwise.entry here) v result
         state.new }
-    ensures falls { RankAtMost state.old 22 result state.new }
+    ensures bounded { RankAtMost state.old 22 result state.new }
 {
     if to_boolean(&v) {
         Ok(begin_statements(state, then, here)?)

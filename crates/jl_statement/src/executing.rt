@@ -22,7 +22,7 @@ pub(crate) fn execute_for<'p>(
     here: Here,
     labels: Labels<'p>,
 ) -> Result<Act<'p>, NoMemory>
-    ensures leads { Executes state.old (and_then (execute (table_of state.old.functions) (plain (view_statement
+    ensures refines { Executes state.old (and_then (execute (table_of state.old.functions) (plain (view_statement
         t.now)) (labels_seen labels.entry) (context_of state.old.calls here)) (completion_after (table_of
         state.old.functions) state.old.calls frame.entry)) result state.new }
     ensures pushed { IfOk result (λ act. (act ≡ Act.Execute t.entry here labels.entry)
@@ -38,9 +38,9 @@ pub(crate) fn begin_remaining<'p>(
     rest: Remaining<'p, Stmt>,
     here: Here,
 ) -> Result<Act<'p>, NoMemory>
-    ensures leads { Executes state.old (execute_all (table_of state.old.functions) (plain_forest (view_statements
+    ensures refines { Executes state.old (execute_all (table_of state.old.functions) (plain_forest (view_statements
         (items_left rest.entry))) (context_of state.old.calls here)) result state.new }
-    ensures falls { RankAtMost state.old 12 result state.new }
+    ensures bounded { RankAtMost state.old 12 result state.new }
 {
     match split_first(rest) {
         None => Ok(Act::Complete(Completion::Normal)),
@@ -57,9 +57,9 @@ pub fn begin_statements<'p>(
     list: &'p List<Stmt>,
     here: Here,
 ) -> Result<Act<'p>, NoMemory>
-    ensures leads { Executes state.old (execute_all (table_of state.old.functions) (plain_forest (view_statements
+    ensures refines { Executes state.old (execute_all (table_of state.old.functions) (plain_forest (view_statements
         list.now)) (context_of state.old.calls here)) result state.new }
-    ensures falls { RankAtMost state.old (14) result state.new }
+    ensures bounded { RankAtMost state.old (14) result state.new }
 {
     begin_remaining(state, Remaining { list, from: 0 }, here)
 }
@@ -71,8 +71,8 @@ pub(crate) fn step_statements<'p>(
     here: Here,
     how: Completion,
 ) -> Result<Act<'p>, NoMemory>
-    ensures leads { ResumesCompletion state.old (CompletionFrame.Statements rest.entry here) how result state.new }
-    ensures falls { RankAtMost state.old 12 result state.new }
+    ensures refines { ResumesCompletion state.old (CompletionFrame.Statements rest.entry here) how result state.new }
+    ensures bounded { RankAtMost state.old 12 result state.new }
 {
     match how {
         Completion::Normal => begin_remaining(state, rest, here),

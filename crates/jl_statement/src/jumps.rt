@@ -53,7 +53,7 @@ pub(crate) fn begin_labelled<'p>(
     here: Here,
     labels: Labels<'p>,
 ) -> Result<Act<'p>, NoMemory>
-    ensures leads { Executes state.old (ends_as (after_labelled label.now) (execute (table_of state.old.functions)
+    ensures refines { Executes state.old (ends_as (after_labelled label.now) (execute (table_of state.old.functions)
         (plain (view_statement t.now)) (label.now ∷ labels_seen labels.entry) (context_of state.old.calls here)))
         result state.new }
     ensures left { IfOk result (λ _. state.new.left ≤ state.old.left) }
@@ -69,7 +69,7 @@ pub(crate) fn begin_return<'p>(
     e: &'p Expr,
     here: Here,
 ) -> Result<Act<'p>, NoMemory>
-    ensures leads { Executes state.old (value_then (table_of state.old.functions) state.old.calls e.now here
+    ensures refines { Executes state.old (value_then (table_of state.old.functions) state.old.calls e.now here
         StatementFrame.Return) result state.new }
     ensures left { IfOk result (λ _. state.new.left ≤ state.old.left) }
 {
@@ -86,8 +86,8 @@ pub(crate) fn begin_return<'p>(
 /// `return` completes with its value (12.9).
 #[tactic(auto, unfolding(jl_meaning::specs::forms::Jumps::return_value))]
 pub(crate) fn step_return<'p>(state: &mut State<'p>, v: Value) -> Result<Act<'p>, NoMemory>
-    ensures leads { Executes state.old (return_value 0 v) result state.new }
-    ensures falls { RankAtMost state.old 5 result state.new }
+    ensures refines { Executes state.old (return_value 0 v) result state.new }
+    ensures bounded { RankAtMost state.old 5 result state.new }
 {
     Ok(Act::Complete(Completion::Return(v)))
 }
@@ -95,8 +95,8 @@ pub(crate) fn step_return<'p>(state: &mut State<'p>, v: Value) -> Result<Act<'p>
 /// `throw` completes with its value (12.13).
 #[tactic(auto, unfolding(jl_meaning::specs::forms::Jumps::throw_value))]
 pub(crate) fn step_throw<'p>(state: &mut State<'p>, v: Value) -> Result<Act<'p>, NoMemory>
-    ensures leads { Executes state.old (throw_value 0 v) result state.new }
-    ensures falls { RankAtMost state.old 5 result state.new }
+    ensures refines { Executes state.old (throw_value 0 v) result state.new }
+    ensures bounded { RankAtMost state.old 5 result state.new }
 {
     Ok(Act::Complete(Completion::Throw(v)))
 }

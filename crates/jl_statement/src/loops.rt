@@ -14,7 +14,7 @@ use crate::for_in::{put_visited, visit_next};
 use jl_algorithm::leaf_value;
 use jl_ast::{Expr, Stmt};
 use jl_conv::to_boolean;
-use jl_state::{Act, CompletionFrame, Here, Labels, Loop, LoopTurn, State, StatementFrame};
+use jl_state::{Act, Boxed, CompletionFrame, Loop, LoopTurn, State, StatementFrame};
 use jl_text::{List, NoMemory, word};
 use jl_value::{Completion, Value};
 
@@ -31,96 +31,74 @@ fn body_of<'p>(kind: &Loop<'p>) -> &'p List<Stmt>
 }
 
 /// The body of a loop begins.
-pub(crate) fn begin_body<'p>(state: &mut State<'p>, turn: LoopTurn<'p>) -> Result<Act<'p>, NoMemory>
-    ensures leads { Executes state.old (loop_body (table_of state.old.functions) state.old.calls turn.entry) result
+pub(crate) fn begin_body<'p>(
+    state: &mut State<'p>,
+    turn: Boxed<LoopTurn<'p>>,
+) -> Result<Act<'p>, NoMemory>
+    ensures refines { Executes state.old (loop_body (table_of state.old.functions) state.old.calls turn.entry) result
         state.new }
-    ensures falls { RankAtMost state.old 34 result state.new }
+    ensures bounded { RankAtMost state.old 34 result state.new }
 {
-    let body = body_of(&turn.kind);
-    let here = turn.here;
+    let body = body_of(&turn.get().kind);
+    let here = turn.get().here;
     state.push_completion(CompletionFrame::LoopBody { turn })?;
     begin_statements(state, body, here)
 }
 
 /// A turn of a loop takes a step, and begins.
-pub(crate) fn begin_turn<'p>(state: &mut State<'p>, turn: LoopTurn<'p>) -> Result<Act<'p>, NoMemory>
-    ensures leads { Executes state.old (next_turn (table_of state.old.functions) state.old.calls turn.entry) result
+pub(crate) fn begin_turn<'p>(
+    state: &mut State<'p>,
+    turn: Boxed<LoopTurn<'p>>,
+) -> Result<Act<'p>, NoMemory>
+    ensures refines { Executes state.old (next_turn (table_of state.old.functions) state.old.calls turn.entry) result
         state.new }
-    ensures falls { RankAtMost state.old 1 result state.new }
+    ensures bounded { RankAtMost state.old 1 result state.new }
 {
     if !state.spend() {
         return Ok(Act::Spent);
     }
-    take_turn(state, turn)
+    iterate(state, turn)
 }
 
 /// What a turn does after that step.
-#[tactic(auto, using(crate::proofs::Followed::tests))]
-fn take_turn<'p>(state: &mut State<'p>, turn: LoopTurn<'p>) -> Result<Act<'p>, NoMemory>
-    ensures leads { Executes state.old (turn_inside (table_of state.old.functions) state.old.calls turn.entry)
+fn iterate<'p>(state: &mut State<'p>, turn: Boxed<LoopTurn<'p>>) -> Result<Act<'p>, NoMemory>
+    ensures refines { Executes state.old (turn_inside (table_of state.old.functions) state.old.calls turn.entry)
         result state.new }
     ensures left { IfOk result (λ _. state.new.left ≤ state.old.left) }
 {
-    let LoopTurn { kind, here, labels } = turn;
-    match kind {
-        Loop::Do { body, test } => {
-            let kind = Loop::Do { body, test };
-            begin_body(state, LoopTurn { kind, here, labels })
-        }
-        Loop::While { test, body } => {
-            let kind = Loop::While { test, body };
-            let turn = LoopTurn { kind, here, labels };
+    match &turn.get().kind {
+        Loop::Do { .. } => begin_body(state, turn),
+        Loop::While { test, .. } => {
+            let test = *test;
             begin_test(state, turn, test)
         }
-        Loop::For { test, update, body } => { turn_for(state, test, update, body, here, labels) }
-        Loop::ForIn {
-            variable,
-            visits,
-            body,
-        } => {
-            let name = word(state.alloc(), "")?;
-            put_visited(state, variable, name, visits, body, here, labels)
+        Loop::For { test, .. } => {
+            let test = *test;
+            match test {
+                Some(test) => begin_test(state, turn, test),
+                None => begin_body(state, turn),
+            }
         }
-    }
-}
-
-/// What a turn of a `for` does after that step (12.6.3).
-#[tactic(auto, using(crate::proofs::Followed::tests))]
-fn turn_for<'p>(
-    state: &mut State<'p>,
-    test: &'p Option<Expr>,
-    update: &'p Option<Expr>,
-    body: &'p List<Stmt>,
-    here: Here,
-    labels: Labels<'p>,
-) -> Result<Act<'p>, NoMemory>
-    ensures leads { Executes state.old (turn_inside (table_of state.old.functions) state.old.calls (record {
-      kind = Loop.For test.entry update.entry body.entry;
-      here = here;
-      labels = labels.entry;
-    })) result state.new }
-    ensures left { IfOk result (λ _. state.new.left ≤ state.old.left) }
-{
-    let kind = Loop::For { test, update, body };
-    let turn = LoopTurn { kind, here, labels };
-    match test {
-        Some(test) => begin_test(state, turn, test),
-        None => begin_body(state, turn),
+        Loop::ForIn { variable, .. } => {
+            let variable = *variable;
+            let name = word(state.alloc(), "")?;
+            put_visited(state, turn, variable, name)
+        }
     }
 }
 
 /// A turn begins with the test of a loop that has it before its body.
 fn begin_test<'p>(
     state: &mut State<'p>,
-    turn: LoopTurn<'p>,
+    turn: Boxed<LoopTurn<'p>>,
     test: &'p Expr,
 ) -> Result<Act<'p>, NoMemory>
     requires first { is_do turn.kind ≡ false }
-    ensures leads { Executes state.old (value_then (table_of state.old.functions) state.old.calls test.now
+    ensures refines { Executes state.old (value_then (table_of state.old.functions) state.old.calls test.now
         turn.entry.here (StatementFrame.Test turn.entry)) result state.new }
     ensures left { IfOk result (λ _. state.new.left ≤ state.old.left) }
 {
-    let here = turn.here;
+    let here = turn.get().here;
     let found = leaf_value(&*state, test, here)?;
     match found {
         Some(v) => {
@@ -134,12 +112,12 @@ fn begin_test<'p>(
 /// The body of such a loop begins, if its test holds.
 fn begin_body_if<'p>(
     state: &mut State<'p>,
-    turn: LoopTurn<'p>,
+    turn: Boxed<LoopTurn<'p>>,
     v: Value,
 ) -> Result<Act<'p>, NoMemory>
     requires first { is_do turn.kind ≡ false }
-    ensures leads { ResumesStatement state.old (StatementFrame.Test turn.entry) v result state.new }
-    ensures falls { RankAtMost state.old 34 result state.new }
+    ensures refines { ResumesStatement state.old (StatementFrame.Test turn.entry) v result state.new }
+    ensures bounded { RankAtMost state.old 34 result state.new }
 {
     if !to_boolean(&v) {
         return Ok(Act::Complete(Completion::Normal));
@@ -162,13 +140,13 @@ fn is_do(kind: &Loop<'_>) -> bool
 /// A loop goes on with the value of its test.
 pub(crate) fn step_test<'p>(
     state: &mut State<'p>,
-    turn: LoopTurn<'p>,
+    turn: Boxed<LoopTurn<'p>>,
     v: Value,
 ) -> Result<Act<'p>, NoMemory>
-    ensures leads { ResumesStatement state.old (StatementFrame.Test turn.entry) v result state.new }
-    ensures falls { RankAtMost state.old (rank_test turn.entry.kind + 2) result state.new }
+    ensures refines { ResumesStatement state.old (StatementFrame.Test turn.entry) v result state.new }
+    ensures bounded { RankAtMost state.old (rank_test turn.entry.kind + 2) result state.new }
 {
-    if !is_do(&turn.kind) {
+    if !is_do(&turn.get().kind) {
         return begin_body_if(state, turn, v);
     }
     if !to_boolean(&v) {
@@ -181,67 +159,40 @@ pub(crate) fn step_test<'p>(
 #[tactic(auto, using(crate::proofs::Turning::ends_loop, crate::proofs::Turning::goes_on))]
 pub(crate) fn step_body<'p>(
     state: &mut State<'p>,
-    turn: LoopTurn<'p>,
+    turn: Boxed<LoopTurn<'p>>,
     how: Completion,
 ) -> Result<Act<'p>, NoMemory>
-    ensures leads { Executes state.old (after_loop_body (table_of state.old.functions) state.old.calls turn.entry
+    ensures refines { Executes state.old (after_loop_body (table_of state.old.functions) state.old.calls turn.entry
         how) result state.new }
-    ensures falls { RankAtMost state.old 22 result state.new }
+    ensures bounded { RankAtMost state.old 22 result state.new }
 {
-    match after_body(turn.labels.items(), how) {
+    match after_body(turn.get().labels.items(), how) {
         Some(how) => Ok(Act::Complete(how)),
         None => go_on(state, turn),
     }
 }
 
 /// A loop goes on after its body.
-#[tactic(auto, using(crate::proofs::Followed::tests))]
-fn go_on<'p>(state: &mut State<'p>, turn: LoopTurn<'p>) -> Result<Act<'p>, NoMemory>
-    ensures leads { Executes state.old (after_loop_body (table_of state.old.functions) state.old.calls turn.entry
+fn go_on<'p>(state: &mut State<'p>, turn: Boxed<LoopTurn<'p>>) -> Result<Act<'p>, NoMemory>
+    ensures refines { Executes state.old (after_loop_body (table_of state.old.functions) state.old.calls turn.entry
         Completion.Normal) result state.new }
-    ensures falls { RankAtMost state.old 22 result state.new }
+    ensures bounded { RankAtMost state.old 22 result state.new }
 {
-    let LoopTurn { kind, here, labels } = turn;
-    match kind {
-        Loop::Do { body, test } => {
-            let kind = Loop::Do { body, test };
-            let turn = LoopTurn { kind, here, labels };
+    match &turn.get().kind {
+        Loop::Do { test, .. } => {
+            let test = *test;
+            let here = turn.get().here;
             state.evaluate_for(StatementFrame::Test { turn }, test, here)
         }
-        Loop::While { test, body } => {
-            let kind = Loop::While { test, body };
-            begin_turn(state, LoopTurn { kind, here, labels })
+        Loop::While { .. } => begin_turn(state, turn),
+        Loop::For { update, .. } => {
+            let update = *update;
+            let here = turn.get().here;
+            match update {
+                Some(update) => state.evaluate_for(StatementFrame::Update { turn }, update, here),
+                None => begin_turn(state, turn),
+            }
         }
-        Loop::For { test, update, body } => { go_on_for(state, test, update, body, here, labels) }
-        Loop::ForIn {
-            variable,
-            visits,
-            body,
-        } => visit_next(state, variable, visits.into_inner(), body, here, labels),
-    }
-}
-
-/// A `for` goes on after its body (12.6.3).
-#[tactic(auto, using(crate::proofs::Followed::updates))]
-fn go_on_for<'p>(
-    state: &mut State<'p>,
-    test: &'p Option<Expr>,
-    update: &'p Option<Expr>,
-    body: &'p List<Stmt>,
-    here: Here,
-    labels: Labels<'p>,
-) -> Result<Act<'p>, NoMemory>
-    ensures leads { Executes state.old (after_loop_body (table_of state.old.functions) state.old.calls (record {
-      kind = Loop.For test.entry update.entry body.entry;
-      here = here;
-      labels = labels.entry;
-    }) Completion.Normal) result state.new }
-    ensures falls { RankAtMost state.old 22 result state.new }
-{
-    let kind = Loop::For { test, update, body };
-    let turn = LoopTurn { kind, here, labels };
-    match update {
-        Some(update) => state.evaluate_for(StatementFrame::Update { turn }, update, here),
-        None => begin_turn(state, turn),
+        Loop::ForIn { .. } => visit_next(state, turn),
     }
 }

@@ -22,8 +22,8 @@ pub fn step_statement<'p>(
     frame: StatementFrame<'p>,
     v: Value,
 ) -> Result<Act<'p>, NoMemory>
-    ensures leads { ResumesStatement state.old frame.entry v result state.new }
-    ensures falls { RankAtMost state.old (rank_statement frame.entry + 2) result state.new }
+    ensures refines { ResumesStatement state.old frame.entry v result state.new }
+    ensures bounded { RankAtMost state.old (rank_statement frame.entry + 2) result state.new }
 {
     match frame {
         StatementFrame::Expression => Ok(Act::Complete(Completion::Normal)),
@@ -62,8 +62,8 @@ pub fn step_completion<'p>(
     frame: CompletionFrame<'p>,
     how: Completion,
 ) -> Result<Act<'p>, NoMemory>
-    ensures leads { ResumesCompletion state.old frame.entry how result state.new }
-    ensures falls { RankAtMost state.old (rank_completion frame.entry + 2) result state.new }
+    ensures refines { ResumesCompletion state.old frame.entry how result state.new }
+    ensures bounded { RankAtMost state.old (rank_completion frame.entry + 2) result state.new }
 {
     match frame {
         CompletionFrame::Statements { rest, here } => step_statements(state, rest, here, how),

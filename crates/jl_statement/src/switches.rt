@@ -1,5 +1,5 @@
 //! The `switch` statement (12.11).
-ghost use Rattle.std.specs.Prelude.{◌≡◌, ◌≤◌, ◌*◌, ◌+◌, length, option_map, IfOk, Some};
+ghost use Rattle.std.specs.Prelude.{◌≡◌, ◌≤◌, ◌*◌, ◌+◌, length, IfOk, Some};
 ghost use Rattle.jl_ast.specs.View.{view_cases};
 ghost use Rattle.jl_meaning.specs.Statements.{execute_from};
 ghost use Rattle.jl_meaning.specs.forms.Switch.{default_of};
@@ -51,9 +51,9 @@ fn begin_clauses<'p>(
     rest: Remaining<'p, Case>,
     here: Here,
 ) -> Result<Act<'p>, NoMemory>
-    ensures leads { Executes state.old (execute_from (table_of state.old.functions) (Some 0) (plain_forest
+    ensures refines { Executes state.old (execute_from (table_of state.old.functions) (Some 0) (plain_forest
         (view_cases (items_left rest.entry))) (context_of state.old.calls here)) result state.new }
-    ensures falls { RankAtMost state.old (14 * length (items_left rest.entry) + 12) result state.new }
+    ensures bounded { RankAtMost state.old (14 * length (items_left rest.entry) + 12) result state.new }
 {
     match split_first(rest) {
         None => Ok(Act::Complete(Completion::Normal)),
@@ -71,8 +71,8 @@ pub(crate) fn step_clauses<'p>(
     here: Here,
     how: Completion,
 ) -> Result<Act<'p>, NoMemory>
-    ensures leads { ResumesCompletion state.old (CompletionFrame.Clauses rest.entry here) how result state.new }
-    ensures falls { RankAtMost state.old (14 * length (items_left rest.entry) + 12) result state.new }
+    ensures refines { ResumesCompletion state.old (CompletionFrame.Clauses rest.entry here) how result state.new }
+    ensures bounded { RankAtMost state.old (14 * length (items_left rest.entry) + 12) result state.new }
 {
     match how {
         Completion::Normal => begin_clauses(state, rest, here),
@@ -90,9 +90,9 @@ fn begin_from<'p>(
     cases: &'p List<Case>,
     here: Here,
 ) -> Result<Act<'p>, NoMemory>
-    ensures leads { Executes state.old (run_from (table_of state.old.functions) (context_of state.old.calls here)
+    ensures refines { Executes state.old (run_from (table_of state.old.functions) (context_of state.old.calls here)
         selected cases.now) result state.new }
-    ensures falls { RankAtMost state.old (14 * length cases.now + 15) result state.new }
+    ensures bounded { RankAtMost state.old (14 * length cases.now + 15) result state.new }
 {
     state.push_completion(CompletionFrame::Switch)?;
     match selected {
@@ -109,9 +109,9 @@ fn select_from<'p>(
     cases: &'p List<Case>,
     here: Here,
 ) -> Result<Act<'p>, NoMemory>
-    ensures leads { Executes state.old (select_and_run (table_of state.old.functions) (context_of state.old.calls
+    ensures refines { Executes state.old (select_and_run (table_of state.old.functions) (context_of state.old.calls
         here) value from cases.now) result state.new }
-    ensures falls { RankAtMost state.old (20 * length cases.now + 52) result state.new }
+    ensures bounded { RankAtMost state.old (20 * length cases.now + 52) result state.new }
 {
     match next_test(cases, from) {
         None => begin_from(state, default_of(cases.items()), cases, here),
@@ -134,7 +134,7 @@ pub(crate) fn begin_switch<'p>(
     cases: &'p List<Case>,
     here: Here,
 ) -> Result<Act<'p>, NoMemory>
-    ensures leads { Executes state.old (value_then (table_of state.old.functions) state.old.calls e.now here
+    ensures refines { Executes state.old (value_then (table_of state.old.functions) state.old.calls e.now here
         (StatementFrame.Switch cases.entry here)) result state.new }
     ensures left { IfOk result (λ _. state.new.left ≤ state.old.left) }
 {
@@ -155,8 +155,8 @@ pub(crate) fn step_switch<'p>(
     here: Here,
     v: Value,
 ) -> Result<Act<'p>, NoMemory>
-    ensures leads { ResumesStatement state.old (StatementFrame.Switch cases.entry here) v result state.new }
-    ensures falls { RankAtMost state.old (20 * length cases.now + 62) result state.new }
+    ensures refines { ResumesStatement state.old (StatementFrame.Switch cases.entry here) v result state.new }
+    ensures bounded { RankAtMost state.old (20 * length cases.now + 62) result state.new }
 {
     select_from(state, v, 0, cases, here)
 }
@@ -170,9 +170,9 @@ pub(crate) fn step_case_test<'p>(
     here: Here,
     w: Value,
 ) -> Result<Act<'p>, NoMemory>
-    ensures leads { ResumesStatement state.old (StatementFrame.CaseTest value index cases.entry here) w result
+    ensures refines { ResumesStatement state.old (StatementFrame.CaseTest value index cases.entry here) w result
         state.new }
-    ensures falls { RankAtMost state.old (20 * length cases.now + 52) result state.new }
+    ensures bounded { RankAtMost state.old (20 * length cases.now + 52) result state.new }
 {
     if strict_equal(&value, &w) {
         return begin_from(state, Some(index), cases, here);

@@ -22,10 +22,10 @@ pub(crate) fn begin_finally<'p>(
     before: Completion,
     here: Here,
 ) -> Result<Act<'p>, NoMemory>
-    ensures leads { Executes state.old (ends_as (unless_abrupt before) (execute_branch (table_of
+    ensures refines { Executes state.old (ends_as (unless_abrupt before) (execute_branch (table_of
         state.old.functions) (plain_optional (view_branch finally.now)) (context_of state.old.calls here))) result
         state.new }
-    ensures falls { RankAtMost state.old 18 result state.new }
+    ensures bounded { RankAtMost state.old 18 result state.new }
 {
     match finally {
         None => Ok(Act::Complete(before)),
@@ -44,11 +44,11 @@ fn begin_catch<'p>(
     here: Here,
     thrown: Value,
 ) -> Result<Act<'p>, NoMemory>
-    ensures leads { Executes state.old (and_then (handle (table_of state.old.functions) (plain_optional (view_catch
+    ensures refines { Executes state.old (and_then (handle (table_of state.old.functions) (plain_optional (view_catch
         (Some handler.now))) (Completion.Throw thrown) (context_of state.old.calls here)) (λ handled. ends_as
         (unless_abrupt handled) (execute_branch (table_of state.old.functions) (plain_optional (view_branch
         finally.now)) (context_of state.old.calls here)))) result state.new }
-    ensures falls { RankAtMost state.old 52 result state.new }
+    ensures bounded { RankAtMost state.old 52 result state.new }
 {
     state.push_completion(CompletionFrame::CatchBlock { finally, here })?;
     enter_catch(state, handler, here, thrown)
@@ -61,9 +61,9 @@ fn enter_catch<'p>(
     here: Here,
     thrown: Value,
 ) -> Result<Act<'p>, NoMemory>
-    ensures leads { Executes state.old (handle (table_of state.old.functions) (plain_optional (view_catch (Some
+    ensures refines { Executes state.old (handle (table_of state.old.functions) (plain_optional (view_catch (Some
         handler.now))) (Completion.Throw thrown) (context_of state.old.calls here)) result state.new }
-    ensures falls { RankAtMost state.old 14 result state.new }
+    ensures bounded { RankAtMost state.old 14 result state.new }
 {
     let env = state.store.enter_catch(here.env, &handler.0.text, thrown)?;
     let inside = Here {
@@ -81,9 +81,9 @@ pub(crate) fn step_try<'p>(
     here: Here,
     how: Completion,
 ) -> Result<Act<'p>, NoMemory>
-    ensures leads { ResumesCompletion state.old (CompletionFrame.TryBlock catch.entry finally.entry here) how result
+    ensures refines { ResumesCompletion state.old (CompletionFrame.TryBlock catch.entry finally.entry here) how result
         state.new }
-    ensures falls { RankAtMost state.old 52 result state.new }
+    ensures bounded { RankAtMost state.old 52 result state.new }
 {
     match catch {
         None => begin_finally(state, finally, how, here),
@@ -99,11 +99,11 @@ fn after_block<'p>(
     here: Here,
     how: Completion,
 ) -> Result<Act<'p>, NoMemory>
-    ensures leads { Executes state.old (and_then (handle (table_of state.old.functions) (plain_optional (view_catch
+    ensures refines { Executes state.old (and_then (handle (table_of state.old.functions) (plain_optional (view_catch
         (Some handler.now))) how (context_of state.old.calls here)) (λ handled. ends_as (unless_abrupt handled)
         (execute_branch (table_of state.old.functions) (plain_optional (view_branch finally.now)) (context_of
         state.old.calls here)))) result state.new }
-    ensures falls { RankAtMost state.old 52 result state.new }
+    ensures bounded { RankAtMost state.old 52 result state.new }
 {
     match how {
         Completion::Throw(thrown) => begin_catch(state, handler, finally, here, thrown),

@@ -10,7 +10,7 @@ ghost use Rattle.jl_statement.specs.inner.Declarators.{declare, IsFirst};
 use crate::loops::begin_turn;
 use jl_ast::{Expr, Ident};
 use jl_member::assign_name;
-use jl_state::{Act, Here, LoopTurn, Remaining, State, StatementFrame};
+use jl_state::{Act, Boxed, Here, LoopTurn, Remaining, State, StatementFrame};
 use jl_text::{NoMemory, Text};
 use jl_value::Completion;
 
@@ -42,9 +42,9 @@ pub(crate) fn declare_variables<'p>(
     rest: Remaining<'p, (Ident, Option<Expr>)>,
     here: Here,
 ) -> Result<Act<'p>, NoMemory>
-    ensures leads { Executes state.old (declare (table_of state.old.functions) (context_of state.old.calls here)
+    ensures refines { Executes state.old (declare (table_of state.old.functions) (context_of state.old.calls here)
         (items_left rest.entry) then λ _. normal) result state.new }
-    ensures falls { RankAtMost state.old (60 * length (items_left rest.entry) + 12) result state.new }
+    ensures bounded { RankAtMost state.old (60 * length (items_left rest.entry) + 12) result state.new }
 {
     match first_initialised(rest) {
         None => Ok(Act::Complete(Completion::Normal)),
@@ -59,14 +59,14 @@ pub(crate) fn declare_variables<'p>(
 pub(crate) fn declare_head<'p>(
     state: &mut State<'p>,
     rest: Remaining<'p, (Ident, Option<Expr>)>,
-    turn: LoopTurn<'p>,
+    turn: Boxed<LoopTurn<'p>>,
 ) -> Result<Act<'p>, NoMemory>
-    ensures leads { Executes state.old (declare (table_of state.old.functions) (context_of state.old.calls
+    ensures refines { Executes state.old (declare (table_of state.old.functions) (context_of state.old.calls
         turn.entry.here) (items_left rest.entry) then λ _. next_turn (table_of state.old.functions) state.old.calls
         turn.entry) result state.new }
-    ensures falls { RankAtMost state.old (60 * length (items_left rest.entry) + 12) result state.new }
+    ensures bounded { RankAtMost state.old (60 * length (items_left rest.entry) + 12) result state.new }
 {
-    let here = turn.here;
+    let here = turn.get().here;
     match first_initialised(rest) {
         None => begin_turn(state, turn),
         Some((name, value, rest)) => {

@@ -147,22 +147,19 @@ fn first_left(heap: &Heap, visits: &[Visit], from: usize) -> usize
     at
 }
 
-/// The name of the next property that is still there, and what may be visited after it.
+/// The name of the next property that is still there, if there is one; the visits go on after it.
 pub(crate) fn next_visit(
     alloc: Global,
     store: &Store,
-    visits: Visits,
-) -> Result<Option<(Text, Visits)>, NoMemory>
-    ensures { IfOk result (λ next. IsNext (visits_left store.now.heap (visits_seen visits)) next) }
+    visits: &mut Visits,
+) -> Result<Option<Text>, NoMemory>
+    ensures { IfOk result (λ next. IsNext (visits_left store.now.heap (visits_seen visits.old)) next visits.new) }
 {
     let at = first_left(store.heap(), visits.visits.items(), visits.from);
     let name = match visits.visits.items().get(at) {
         None => return Ok(None),
         Some(visit) => visit.name.share(alloc)?,
     };
-    let rest = Visits {
-        visits: visits.visits,
-        from: at + 1,
-    };
-    Ok(Some((name, rest)))
+    visits.from = at + 1;
+    Ok(Some(name))
 }

@@ -69,3 +69,20 @@ rebound_is x v b (e ∷ es) apart is =
         (ap bindings_of (sym (none_written x w es others)) ∙ others_stay x v es others)
         )
     by false same is rest = rw same (ap (λ l. bound_to e.name e.item ∷ l) (rest (rw same at is)))
+
+-- what stands under a name is written back
+pub written_back : (x : List ℕ) (b : Bound) (es : List Entry) → AreApart es → item_named x es ≡ Some b
+    → with_item es x b ≡ es
+written_back x b [] apart is = refl
+written_back x b (e ∷ es) apart is =
+    by (bytes_eq e.name x) refl is (written_back x b es (rest_apart e es apart))
+  where
+    by : (same : Bool) → bytes_eq e.name x ≡ same → item_named x (e ∷ es) ≡ Some b
+        → (item_named x es ≡ Some b → with_item es x b ≡ es) → with_item (e ∷ es) x b ≡ e ∷ es
+    by true same is rest =
+        let held : e.item ≡ b = same_Some e.item b (rw same at is) in
+        rw same (
+        ap (λ i. record e { item = i } ∷ with_item es x b) (sym held)
+        ∙ ap (λ l. e ∷ l) (sym (none_written x b es (no_other x e es apart same)))
+        )
+    by false same is rest = rw same (ap (λ l. e ∷ l) (rest (rw same at is)))

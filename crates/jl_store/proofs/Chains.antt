@@ -14,22 +14,22 @@ use Rattle.jl_meaning.specs.Parts.{Answer, Job, Part}
 use Rattle.jl_meaning.specs.Store.{Store}
 use Rattle.jl_store.specs.Answers.{MakesError}
 use Rattle.jl_store.specs.Changes.{after}
-use Rattle.jl_store.specs.Comes.{leads, Comes}
+use Rattle.jl_store.specs.BigStep.{refines, BigStep}
 
 abbrev EndOf : Type 0 → Type 0
 EndOf A = Finish AlgorithmFault (Answer A)
 
 given_on : {A B : Type 0} (a : Answer A) (k : A → Algorithm B) (s t u : Store) (b : A) (e : EndOf B) → a ≡ gives b
-    → s ≡ t → leads (k b) t u e → leads (continue_with k a) s u e
+    → s ≡ t → refines (k b) t u e → refines (continue_with k a) s u e
 given_on {A} {B} a k s t u b e here same rest =
-    subst (λ (c : Answer A). leads (continue_with k c) s u e) (sym here)
-    (subst (λ v. leads (k b) v u e) (sym same) rest)
+    subst (λ (c : Answer A). refines (continue_with k c) s u e) (sym here)
+    (subst (λ v. refines (k b) v u e) (sym same) rest)
 
 ended : {A : Type 0} (a b : Answer A) (x y : EndOf A) → x ≡ Ends a → y ≡ Ends b → x ≡ y → a ≡ b
 ended a b x y ea eb e = cc
 
 goes_on : {A B : Type 0} (p : Algorithm A) (k : A → Algorithm B) (s t u : Store) (a : A) (e : EndOf B)
-    → leads p s t (Ends (gives a)) → leads (k a) t u e → leads (p >>= k) s u e
+    → refines p s t (Ends (gives a)) → refines (k a) t u e → refines (p >>= k) s u e
 goes_on (End b) k s t u a e first rest =
     given_on b k s t u a e (ended b (gives a) _ _ refl refl first.0) first.1 rest
 goes_on (Fail f) k s t u a e first rest = absurd (let differ = first.0 in cc)
@@ -43,20 +43,20 @@ goes_on (Emit o p) k s t u a e first rest = absurd o
 
 -- what an algorithm gives, the next one goes on with
 pub comes_on : {A B : Type 0} {p : Algorithm A} {s t u : Store} {a : A} {e : EndOf B} (k : A → Algorithm B)
-    → Comes p s t (Ends (gives a)) → Comes (k a) t u e → Comes (p >>= k) s u e
+    → BigStep p s t (Ends (gives a)) → BigStep (k a) t u e → BigStep (p >>= k) s u e
 comes_on {A} {B} {p} {s} {t} {u} {a} {e} k first rest =
-    record { leads = goes_on p k s t u a e first.leads rest.leads }
+    record { refines = goes_on p k s t u a e first.refines rest.refines }
 
 -- the same, where nothing is given
 pub comes_after : {B : Type 0} {p : Algorithm (Unit {0})} {q : Algorithm B} {s t u : Store} {e : EndOf B}
-    → Comes p s t (Ends (gives tt)) → Comes q t u e → Comes (p >>= (λ _. q)) s u e
+    → BigStep p s t (Ends (gives tt)) → BigStep q t u e → BigStep (p >>= (λ _. q)) s u e
 comes_after {B} {p} {q} first rest = comes_on (λ _. q) first rest
 
 throws_on : {A B : Type 0} (p : Algorithm A) (k : A → Algorithm B) (s t : Store) (v : Value)
-    → leads p s t (Ends (throws v)) → leads (p >>= k) s t (Ends (throws v))
+    → refines p s t (Ends (throws v)) → refines (p >>= k) s t (Ends (throws v))
 throws_on {A} {B} (End b) k s t v first =
     let thrown : b ≡ throws v = ended b (throws v) _ _ refl refl first.0 in
-    subst (λ (c : Answer A). leads (continue_with k c) s t (Ends (throws v))) (sym thrown) (refl, first.1)
+    subst (λ (c : Answer A). refines (continue_with k c) s t (Ends (throws v))) (sym thrown) (refl, first.1)
 throws_on (Fail f) k s t v first = absurd (let differ = first.0 in cc)
 throws_on (Step p) k s t v first = absurd first
 throws_on (Look p) k s t v first = throws_on (p s) k s t v first
@@ -68,11 +68,11 @@ throws_on (Emit o p) k s t v first = absurd o
 
 -- what an algorithm throws is thrown on
 pub comes_thrown : {A B : Type 0} {p : Algorithm A} {s t : Store} {v : Value} (k : A → Algorithm B)
-    → Comes p s t (Ends (throws v)) → Comes (p >>= k) s t (Ends (throws v))
-comes_thrown {A} {B} {p} {s} {t} {v} k first = record { leads = throws_on p k s t v first.leads }
+    → BigStep p s t (Ends (throws v)) → BigStep (p >>= k) s t (Ends (throws v))
+comes_thrown {A} {B} {p} {s} {t} {v} k first = record { refines = throws_on p k s t v first.refines }
 
 fails_on : {A B : Type 0} (p : Algorithm A) (k : A → Algorithm B) (s t : Store) (f : AlgorithmFault)
-    → leads p s t (Fails f) → leads (p >>= k) s t (Fails f)
+    → refines p s t (Fails f) → refines (p >>= k) s t (Fails f)
 fails_on (End b) k s t f first = absurd (let differ = first.0 in cc)
 fails_on (Fail g) k s t f first = let same = first.0 in let is : g ≡ f = cc in (ap Fails is, first.1)
 fails_on (Step p) k s t f first = absurd first
@@ -85,15 +85,15 @@ fails_on (Emit o p) k s t f first = absurd o
 
 -- a fault ends all
 pub comes_failed : {A B : Type 0} {p : Algorithm A} {s t : Store} {f : AlgorithmFault} (k : A → Algorithm B)
-    → Comes p s t (Fails f) → Comes (p >>= k) s t (Fails f)
-comes_failed {A} {B} {p} {s} {t} {f} k first = record { leads = fails_on p k s t f first.leads }
+    → BigStep p s t (Fails f) → BigStep (p >>= k) s t (Fails f)
+comes_failed {A} {B} {p} {s} {t} {f} k first = record { refines = fails_on p k s t f first.refines }
 
 -- the error that was made is what the algorithm throws, whatever it would give
 pub error_comes : {A : Type 0} {kind : ErrorKind} {message : List ℕ} {s t : Store} {v : Value}
-    → MakesError kind message s t v → Comes (throw_error {A = A} kind message) s t (Ends (throws v))
+    → MakesError kind message s t v → BigStep (throw_error {A = A} kind message) s t (Ends (throws v))
 unfolding throw_error
 error_comes {A} {kind} {message} {s} {t} {v} makes = record {
-  leads = (ap (λ w. Ends (throws w)) (sym makes.error), sym makes.made);
+  refines = (ap (λ w. Ends (throws w)) (sym makes.error), sym makes.made);
 }
 
 -- A run that begins with an algorithm, up to its next step.
@@ -102,7 +102,7 @@ module _ {A B : Type 0} (recorded : Recorded Operation) (jobs : Job → Part Com
   abbrev runs : Part B → RunState Store Operation → Outcome Store Fault Operation B
   runs p w = run_to language recorded jobs next n p w
 
-  run_on : (p : Algorithm A) (s t : Store) (a : Answer A) (w : RunState Store Operation) → leads p s t (Ends a)
+  run_on : (p : Algorithm A) (s t : Store) (a : Answer A) (w : RunState Store Operation) → refines p s t (Ends a)
       → runs (and_then (lift p) k) (with_store s w) ≡ runs (k a) (with_store t w)
   unfolding after language
   run_on (End b) s t a w first =
@@ -118,7 +118,7 @@ module _ {A B : Type 0} (recorded : Recorded Operation) (jobs : Job → Part Com
   run_on (Emit o p) s t a w first = absurd o
 
   run_fails : (p : Algorithm A) (s t : Store) (f : AlgorithmFault) (w : RunState Store Operation)
-      → leads p s t (Fails f)
+      → refines p s t (Fails f)
       → runs (and_then (lift p) k) (with_store s w) ≡ Over (Fails (fault_of f)) n (with_store t w)
   unfolding after language
   run_fails (End b) s t f w first = absurd (let differ = first.0 in cc)
@@ -137,11 +137,11 @@ module _ {A B : Type 0} (recorded : Recorded Operation) (jobs : Job → Part Com
 
   -- what an algorithm comes to, a run goes on with from the store that it leaves
   pub comes_runs : {p : Algorithm A} {s t : Store} {a : Answer A} (w : RunState Store Operation)
-      → Comes p s t (Ends a) → runs (and_then (lift p) k) (with_store s w) ≡ runs (k a) (with_store t w)
-  comes_runs {p} {s} {t} {a} w comes = run_on p s t a w comes.leads
+      → BigStep p s t (Ends a) → runs (and_then (lift p) k) (with_store s w) ≡ runs (k a) (with_store t w)
+  comes_runs {p} {s} {t} {a} w comes = run_on p s t a w comes.refines
 
   -- and its fault ends the run
   pub comes_fails : {p : Algorithm A} {s t : Store} {f : AlgorithmFault} (w : RunState Store Operation)
-      → Comes p s t (Fails f)
+      → BigStep p s t (Fails f)
       → runs (and_then (lift p) k) (with_store s w) ≡ Over (Fails (fault_of f)) n (with_store t w)
-  comes_fails {p} {s} {t} {f} w comes = run_fails p s t f w comes.leads
+  comes_fails {p} {s} {t} {f} w comes = run_fails p s t f w comes.refines

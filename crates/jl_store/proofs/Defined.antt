@@ -14,7 +14,7 @@ use Rattle.jl_meaning.specs.Parts.{gives}
 use Rattle.jl_meaning.specs.Properties.{mapped_parameter}
 use Rattle.jl_meaning.specs.Store.{Store}
 use Rattle.jl_store.specs.Changes.{after}
-use Rattle.jl_store.specs.Comes.{leads, Comes}
+use Rattle.jl_store.specs.BigStep.{refines, BigStep}
 use Rattle.jl_store.specs.Defining.{remapped_if, remapping_of}
 use Rattle.jl_store.specs.declared.defining.Remapping.{Remapping}
 use Rattle.jl_store.proofs.Chains.{comes_after}
@@ -28,20 +28,21 @@ same_mapping id x change (Some p) = refl
 pub done_comes : (id : ObjId) (x : Name) (change : Change) (s t u : Store) (r : Option Remapping) (d : Defined)
     → t ≡ after (DefineProperty id x change) s → d ≡ (heaps.define_own_property s.heap id.0 x change).1 → d ≡ Done
     → option_map (remapping_of change) (mapped_parameter s id.0 x) ≡ r
-    → Comes (remapped_if id x r) t u (Ends (gives tt)) → Comes (define_with_number id x change) s u (Ends (gives true))
+    → BigStep (remapped_if id x r) t u (Ends (gives tt))
+    → BigStep (define_with_number id x change) s u (Ends (gives true))
 done_comes id x change s t u r d made is done mapping comes =
     let p = mapped_parameter s id.0 x in
     let same : update_mapping id x change p ≡ remapped_if id x r =
     same_mapping id x change p ∙ ap (remapped_if id x) mapping in
-    let updated : Comes (update_mapping id x change p) t u (Ends (gives tt)) =
-    subst (λ q. Comes q t u (Ends (gives tt))) (sym same) comes in
-    let all : leads (update_mapping_if true id x change p) t u (Ends (gives true)) =
-    (comes_after updated comes_to).leads in
+    let updated : BigStep (update_mapping id x change p) t u (Ends (gives tt)) =
+    subst (λ q. BigStep q t u (Ends (gives tt))) (sym same) comes in
+    let all : refines (update_mapping_if true id x change p) t u (Ends (gives true)) =
+    (comes_after updated comes_to).refines in
     let truth : true ≡ is_done (heaps.define_own_property s.heap id.0 x change).1 = ap is_done (sym done ∙ is) in
     record {
-      leads =
-          subst (λ b. leads (update_mapping_if b id x change p) (after (DefineProperty id x change) s) u
+      refines =
+          subst (λ b. refines (update_mapping_if b id x change p) (after (DefineProperty id x change) s) u
           (Ends (gives true)))
           truth
-          (subst (λ v. leads (update_mapping_if true id x change p) v u (Ends (gives true))) made all);
+          (subst (λ v. refines (update_mapping_if true id x change p) v u (Ends (gives true))) made all);
     }

@@ -1,5 +1,6 @@
 -- What environments are seen as, by their parts, and after a change of these.
 use Rattle.std.proofs.Common.{◌≡◌, ℕ, zero, suc, ◌<◌, List, [], ◌∷◌, ◌++◌, length, get_or, refl, ap, sym, ◌∙◌, subst}
+use Rattle.std.proofs.Common.{false, true, Bool}
 use Rattle.std.proofs.Math.ListN.{set}
 use Rattle.std.proofs.lemmas.List.{get_or-map, map-set, set-get_or}
 use Rattle.std.specs.Prelude.{IfSome, IsNone, None, OnOk, Ok, Err, Option, Result, Some, option_map}
@@ -8,11 +9,13 @@ use Rattle.jl_named.specs.Named.{item_named, with_item, AreApart}
 use Rattle.jl_value.specs.declared.value.Value.{Value}
 use Rattle.jl_meaning.specs.Changes.{rebound}
 use Rattle.jl_meaning.specs.Store.{binding_named, no_environment, Binding, Environment}
-use Rattle.jl_store.specs.Environments.{bound_to, environment_in, OutersAreBefore, with_bindings_in}
+use Rattle.jl_store.specs.Environments.{bound_to, environment_in, OutersAreBefore, rebinding, rebinding_of}
+use Rattle.jl_store.specs.Environments.{with_bindings_in, with_rebinding, with_value_if}
 use Rattle.jl_store.specs.declared.environments.Bound.{Bound}
+use Rattle.jl_store.specs.declared.environments.Rebinding.{Rebinding}
 use Rattle.jl_store.specs.declared.environments.Scope.{Scope}
 use Rattle.jl_store.specs.inner.Inside.{bindings_of, environment_of, environments_of}
-use Rattle.jl_store.proofs.BindingEntries.{binding_found, bindings_pushed, rebound_is, unbound_stays}
+use Rattle.jl_store.proofs.BindingEntries.{binding_found, bindings_pushed, rebound_is, unbound_stays, written_back}
 
 -- the environment at an index
 pub there : (ss : List Scope) (k : ℕ) (s : Scope) → k < length ss → s ≡ get_or ss k s
@@ -101,3 +104,26 @@ seen_as_before ss k s x v within is none =
     ∙ unbound_stays x v s.bindings none
     ∙ ap (λ (e : Environment). rebound x v e.bindings) (sym here) in
     sym (set-get_or (environments_of ss) k no_environment) ∙ ap (with_bindings_in (environments_of ss) k) same
+
+-- another value for a name: what comes of it, and the environments after that
+
+pub rebinding_found : (ss : List Scope) (k : ℕ) (s : Scope) (x : List ℕ) (o : Option Bound) (r : Rebinding)
+    → k < length ss → s ≡ get_or ss k s → item_named x s.bindings ≡ o → r ≡ rebinding_of (option_map (bound_to x) o)
+    → r ≡ rebinding_of (binding_named x (environment_in (environments_of ss) k).bindings)
+rebinding_found ss k s x o r within is held found =
+    found
+    ∙ ap (λ p. rebinding_of (option_map (bound_to x) p)) (sym held)
+    ∙ ap rebinding_of (bound_is ss k s x within is)
+
+pub seen_again : (ss : List Scope) (k : ℕ) (s : Scope) (x : List ℕ) (v : Value) (b c : Bound) (mutable : Bool)
+    → k < length ss → s ≡ get_or ss k s → AreApart s.bindings → item_named x s.bindings ≡ Some b
+    → c ≡ with_value_if mutable v b
+    → environments_of (set ss k (record s { bindings = with_item s.bindings x c }))
+    ≡ with_rebinding (rebinding mutable) (environments_of ss) k x v
+seen_again ss k s x v b c true within is apart held again =
+    ap (λ w. environments_of (set ss k (record s { bindings = with_item s.bindings x w }))) again
+    ∙ seen_rebound ss k s x v b within is apart held
+seen_again ss k s x v b c false within is apart held again =
+    ap (λ w. environments_of (set ss k (record s { bindings = with_item s.bindings x w }))) again
+    ∙ ap (λ es. environments_of (set ss k (record s { bindings = es }))) (written_back x b s.bindings apart held)
+    ∙ ap environments_of (unchanged ss k s is)

@@ -13,7 +13,7 @@ use Rattle.jl_meaning.specs.Parts.{throws, Algorithm, Answer}
 use Rattle.jl_meaning.specs.Parts as parts
 use Rattle.jl_meaning.specs.Store.{Store}
 use Rattle.jl_store.specs.Answers.{fault_seen, finish_of}
-use Rattle.jl_store.specs.Comes.{Comes}
+use Rattle.jl_store.specs.BigStep.{BigStep}
 use Rattle.jl_store.specs.declared.answer.AlgorithmFault.{AlgorithmFault}
 use Rattle.jl_store.specs.declared.answer.Finished.{Finished}
 use Rattle.jl_store.specs.declared.answer.Finished.TheVariants as ended
@@ -27,19 +27,19 @@ defined x = define_own_property global_object x (record no_change {
   configurable = Some false;
 })
 
-module _ (x : Name) (s t : Store) (end : Finished Bool) (first : Comes (defined x) s t (finish_of end)) where
+module _ (x : Name) (s t : Store) (end : Finished Bool) (first : BigStep (defined x) s t (finish_of end)) where
   abbrev then_required : Bool → Algorithm (Unit {0})
   then_required done = require done (codes "cannot define")
 
-  in_case : (e : Finished Bool) → end ≡ e → Comes (defined x) s t (finish_of e)
-  in_case e is = subst (λ f. Comes (defined x) s t (finish_of f)) is first
+  in_case : (e : Finished Bool) → end ≡ e → BigStep (defined x) s t (finish_of e)
+  in_case e is = subst (λ f. BigStep (defined x) s t (finish_of f)) is first
 
   pub global_done : (u : Store) (done : Bool) (e : Finish parts.AlgorithmFault (Answer (Unit {0})))
-      → end ≡ ended.Gives done → Comes (then_required done) t u e → Comes (create_global x) s u e
+      → end ≡ ended.Gives done → BigStep (then_required done) t u e → BigStep (create_global x) s u e
   global_done u done e is comes = comes_on then_required (in_case (ended.Gives done) is) comes
 
-  pub global_thrown : (w : Value) → end ≡ ended.Throws w → Comes (create_global x) s t (Ends (throws w))
+  pub global_thrown : (w : Value) → end ≡ ended.Throws w → BigStep (create_global x) s t (Ends (throws w))
   global_thrown w is = comes_thrown then_required (in_case (ended.Throws w) is)
 
-  pub global_failed : (f : AlgorithmFault) → end ≡ ended.Fails f → Comes (create_global x) s t (Fails (fault_seen f))
+  pub global_failed : (f : AlgorithmFault) → end ≡ ended.Fails f → BigStep (create_global x) s t (Fails (fault_seen f))
   global_failed f is = comes_failed then_required (in_case (ended.Fails f) is)

@@ -28,7 +28,7 @@ use Rattle.std.specs.Option.{option_map_or}
 use Rattle.jl_store.specs.Defining.{IsLengthOf, length_given, LengthIsPrimitive}
 use Rattle.jl_store.specs.declared.answer.AlgorithmFault.{AlgorithmFault as Fault}
 use Rattle.jl_store.specs.declared.answer.Finished.TheVariants as ended
-use Rattle.jl_store.specs.Comes.{Comes}
+use Rattle.jl_store.specs.BigStep.{BigStep}
 use Rattle.jl_store.proofs.Chains.{comes_failed, comes_on, comes_thrown, error_comes}
 use Rattle.jl_store.proofs.Steps.{comes_to}
 
@@ -42,25 +42,26 @@ number_of_primitive (value.Text t) bare = refl
 number_of_primitive (value.Obj id) bare = absurd (cc)
 
 number_given : (v : Value) (n : Number) (s : Store) → is_object v ≡ false → number_of_value v ≡ Some n
-    → Comes (to_number v) s s (Ends (gives n))
+    → BigStep (to_number v) s s (Ends (gives n))
 number_given v n s bare is =
-    subst (λ p. Comes p s s (Ends (gives n)))
+    subst (λ p. BigStep p s s (Ends (gives n)))
     (sym (number_of_primitive v bare ∙ ap (or_fault NumberOutside) is)) comes_to
 
 -- where there is no number
 pub no_number : (v : Value) (s : Store) → is_object v ≡ false → number_of_value v ≡ None
-    → Comes (to_length v) s s (Fails NumberOutside)
+    → BigStep (to_length v) s s (Fails NumberOutside)
 no_number v s bare is =
-    let first : Comes (to_number v) s s (Fails NumberOutside) =
-    subst (λ p. Comes p s s (Fails NumberOutside))
-    (sym (number_of_primitive v bare ∙ ap (or_fault NumberOutside) is)) (record { leads = (refl, refl) }) in
+    let first : BigStep (to_number v) s s (Fails NumberOutside) =
+    subst (λ p. BigStep p s s (Fails NumberOutside))
+    (sym (number_of_primitive v bare ∙ ap (or_fault NumberOutside) is)) (record { refines = (refl, refl) }) in
     comes_failed _ (comes_failed _ first)
 
 after_number : (v : Value) (n : Number) (s t : Store) (e : Finish AlgorithmFault (Answer Value)) → is_object v ≡ false
-    → number_of_value v ≡ Some n → Comes (length_within (Some (pos (uint32_of n))) n) s t e → Comes (to_length v) s t e
+    → number_of_value v ≡ Some n → BigStep (length_within (Some (pos (uint32_of n))) n) s t e
+    → BigStep (to_length v) s t e
 after_number v n s t e bare is rest =
     let number = number_given v n s bare is in
-    let count : Comes (to_uint32 v) s s (Ends (gives (uint32_of n))) =
+    let count : BigStep (to_uint32 v) s s (Ends (gives (uint32_of n))) =
     comes_on (λ m. give (uint32_of m)) number comes_to in
     comes_on (λ (k : ℕ). to_number v >>= (λ m. length_within (Some (pos k)) m)) count
     (comes_on (λ m. length_within (Some (pos (uint32_of n))) m) number rest)
@@ -74,18 +75,18 @@ same_by (Some (pos k)) = same_count k
 same_by (Some (negsuc k)) = refl
 
 pub length_given_comes : (v : Value) (n : Number) (s : Store) → is_object v ≡ false → number_of_value v ≡ Some n
-    → is_length (value.Num n) ≡ true → Comes (to_length v) s s (Ends (gives (value.Num n)))
+    → is_length (value.Num n) ≡ true → BigStep (to_length v) s s (Ends (gives (value.Num n)))
 length_given_comes v n s bare is length =
     after_number v n s s (Ends (gives (value.Num n))) bare is
-    (subst (λ b. Comes (if b then give (value.Num n) else throw_error RangeError (codes "bad array length")) s s
+    (subst (λ b. BigStep (if b then give (value.Num n) else throw_error RangeError (codes "bad array length")) s s
     (Ends (gives (value.Num n)))) (sym length ∙ same_by n) comes_to)
 
 pub no_length_comes : (v : Value) (n : Number) (s t : Store) (w : Value) → is_object v ≡ false
     → number_of_value v ≡ Some n → is_length (value.Num n) ≡ false
-    → MakesError RangeError (codes "bad array length") s t w → Comes (to_length v) s t (Ends (throws w))
+    → MakesError RangeError (codes "bad array length") s t w → BigStep (to_length v) s t (Ends (throws w))
 no_length_comes v n s t w bare is length makes =
     after_number v n s t (Ends (throws w)) bare is
-    (subst (λ b. Comes (if b then give (value.Num n) else throw_error RangeError (codes "bad array length")) s t
+    (subst (λ b. BigStep (if b then give (value.Num n) else throw_error RangeError (codes "bad array length")) s t
     (Ends (throws w))) (sym length ∙ same_by n) (error_comes makes))
 
 -- what becomes of a change
@@ -94,11 +95,11 @@ module _ (id : ObjId) (x : Name) (change : Change) (v : Value) (s : Store)
     (given : length_given s.heap id.0 x change ≡ Some v) where
   with_it : (b : Bool) (o : Option Value) (end : Finish AlgorithmFault (Answer Change)) (t : Store)
       → (if b then o else None) ≡ Some v
-      → Comes (to_length v >>= (λ (n : Value). give (record change { value = Some n }))) s t end
-      → Comes (with_length b change o) s t end
+      → BigStep (to_length v >>= (λ (n : Value). give (record change { value = Some n }))) s t end
+      → BigStep (with_length b change o) s t end
   with_it true (Some w) end t is comes =
       let same : v ≡ w = cc in
-      subst (λ z. Comes (to_length z >>= (λ (n : Value). give (record change { value = Some n }))) s t end) same comes
+      subst (λ z. BigStep (to_length z >>= (λ (n : Value). give (record change { value = Some n }))) s t end) same comes
   with_it true None end t is comes = absurd (cc)
   with_it false o end t is comes = absurd (cc)
 
@@ -106,56 +107,56 @@ module _ (id : ObjId) (x : Name) (change : Change) (v : Value) (s : Store)
   is_asked = is_array (object_at s.heap id.0).class && bytes_eq x length_name
 
   pub own_defined : (w : Value) (t : Store) (e : Finish AlgorithmFault (Answer Bool))
-      → Comes (to_length v) s s (Ends (gives w))
-      → Comes (define_with_number id x (record change { value = Some w })) s t e
-      → Comes (define_own_property id x change) s t e
+      → BigStep (to_length v) s s (Ends (gives w))
+      → BigStep (define_with_number id x (record change { value = Some w })) s t e
+      → BigStep (define_own_property id x change) s t e
   unfolding define_own_property
   own_defined w t e length comes =
-      let changed : Comes (with_length is_asked change change.value) s s
+      let changed : BigStep (with_length is_asked change change.value) s s
       (Ends (gives (record change { value = Some w }))) =
       with_it is_asked change.value _ s given (comes_on _ length comes_to) in
-      record { leads = (comes_on (λ (c : Change). define_with_number id x c) changed comes).leads }
+      record { refines = (comes_on (λ (c : Change). define_with_number id x c) changed comes).refines }
 
-  pub own_thrown : (w : Value) (t : Store) → Comes (to_length v) s t (Ends (throws w))
-      → Comes (define_own_property id x change) s t (Ends (throws w))
+  pub own_thrown : (w : Value) (t : Store) → BigStep (to_length v) s t (Ends (throws w))
+      → BigStep (define_own_property id x change) s t (Ends (throws w))
   unfolding define_own_property
   own_thrown w t length =
-      let changed : Comes (with_length is_asked change change.value) s t (Ends (throws w)) =
+      let changed : BigStep (with_length is_asked change change.value) s t (Ends (throws w)) =
       with_it is_asked change.value _ t given (comes_thrown _ length) in
-      record { leads = (comes_thrown (λ (c : Change). define_with_number id x c) changed).leads }
+      record { refines = (comes_thrown (λ (c : Change). define_with_number id x c) changed).refines }
 
-  pub own_failed : Comes (to_length v) s s (Fails NumberOutside)
-      → Comes (define_own_property id x change) s s (Fails NumberOutside)
+  pub own_failed : BigStep (to_length v) s s (Fails NumberOutside)
+      → BigStep (define_own_property id x change) s s (Fails NumberOutside)
   unfolding define_own_property
   own_failed length =
-      let changed : Comes (with_length is_asked change change.value) s s (Fails NumberOutside) =
+      let changed : BigStep (with_length is_asked change change.value) s s (Fails NumberOutside) =
       with_it is_asked change.value _ s given (comes_failed _ length) in
-      record { leads = (comes_failed (λ (c : Change). define_with_number id x c) changed).leads }
+      record { refines = (comes_failed (λ (c : Change). define_with_number id x c) changed).refines }
 
   module _ (bare : is_object v ≡ false) (t u : Store) where
     pub gives_length : (n : Number) (done : Bool) → IsLengthOf v s t (ended.Gives n)
-        → Comes (define_with_number id x (record change { value = Some (value.Num n) })) t u (Ends (gives done))
-        → Comes (define_own_property id x change) s u (Ends (gives done))
+        → BigStep (define_with_number id x (record change { value = Some (value.Num n) })) t u (Ends (gives done))
+        → BigStep (define_own_property id x change) s u (Ends (gives done))
     gives_length n done (is, length, same) comes =
         own_defined (value.Num n) u (Ends (gives done)) (length_given_comes v n s bare is length)
-        (subst (λ w. Comes (define_with_number id x (record change { value = Some (value.Num n) })) w u
+        (subst (λ w. BigStep (define_with_number id x (record change { value = Some (value.Num n) })) w u
         (Ends (gives done)))
         same comes)
 
     pub throws_length : (w : Value) → IsLengthOf v s t (ended.Throws w)
-        → Comes (define_own_property id x change) s t (Ends (throws w))
+        → BigStep (define_own_property id x change) s t (Ends (throws w))
     throws_length w (none, there, makes) = own_thrown w t (by (number_of_value v) refl none there)
       where
         by : (o : Option Number) → number_of_value v ≡ o → IfSome o (λ n. is_length (value.Num n) ≡ false) → IsSome o
-            → Comes (to_length v) s t (Ends (throws w))
+            → BigStep (to_length v) s t (Ends (throws w))
         by (Some n) e short is = no_length_comes v n s t w bare e short makes
         by None e short is = absurd (cc)
 
     pub fails_length : (f : Fault) → IsLengthOf v s t (ended.Fails f)
-        → Comes (define_own_property id x change) s t (Fails (fault_seen f))
+        → BigStep (define_own_property id x change) s t (Fails (fault_seen f))
     fails_length f (none, is, same) =
-        subst (λ w. Comes (define_own_property id x change) s w (Fails (fault_seen f))) (sym same)
-        (subst (λ g. Comes (define_own_property id x change) s s (Fails (fault_seen g))) (sym is)
+        subst (λ w. BigStep (define_own_property id x change) s w (Fails (fault_seen f))) (sym same)
+        (subst (λ g. BigStep (define_own_property id x change) s s (Fails (fault_seen g))) (sym is)
         (own_failed (no_number v s bare none)))
 
 bare_by : (a b : Bool) (o : Option Value) (v : Value) → (if a && b then o else None) ≡ Some v

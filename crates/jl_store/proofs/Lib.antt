@@ -16,3 +16,5 @@ pub mod DeclaredBodies
 pub mod Lengths
 pub mod GlobalNames
 pub mod PutValues
+pub mod ReferredValues
+pub mod Rebindings

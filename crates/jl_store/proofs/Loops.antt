@@ -20,33 +20,33 @@ use Rattle.jl_meaning.specs.Parts.{give, gives, throws, ◌>>=◌, Algorithm, Al
 use Rattle.jl_meaning.specs.Store.{Store}
 use Rattle.jl_store.specs.Bindings.{declare_global_variable, declare_variable}
 use Rattle.jl_store.specs.Plain.{plain_function, plain_functions}
-use Rattle.jl_store.specs.Comes.{Comes}
+use Rattle.jl_store.specs.BigStep.{BigStep}
 use Rattle.jl_store.proofs.Chains.{comes_after, comes_failed, comes_on, comes_thrown}
 use Rattle.jl_store.proofs.Steps.{comes_by_adding, comes_to}
 
 -- from this store the algorithm p has come to that one, where q is left of it
 pub record Leaves (p : Algorithm (Unit {0})) (s : Store) (q : Algorithm (Unit {0})) (t : Store) : Type 0 where
-  pub on : (u : Store) (e : Finish AlgorithmFault (Answer (Unit {0}))) → Comes q t u e → Comes p s u e
+  pub on : (u : Store) (e : Finish AlgorithmFault (Answer (Unit {0}))) → BigStep q t u e → BigStep p s u e
 
 pub all_left : (p : Algorithm (Unit {0})) (s : Store) → Leaves p s p s
 all_left p s = record { on = λ u e comes. comes }
 
 pub next_done : {p q r : Algorithm (Unit {0})} {s t u : Store} → Leaves p s (r >>= (λ _. q)) t
-    → Comes r t u (Ends (gives tt)) → Leaves p s q u
+    → BigStep r t u (Ends (gives tt)) → Leaves p s q u
 next_done before step = record { on = λ u e rest. before.on u e (comes_after step rest) }
 
-pub all_done : {p : Algorithm (Unit {0})} {s t : Store} → Leaves p s (give tt) t → Comes p s t (Ends (gives tt))
+pub all_done : {p : Algorithm (Unit {0})} {s t : Store} → Leaves p s (give tt) t → BigStep p s t (Ends (gives tt))
 all_done before = before.on _ _ comes_to
 
 -- the next one throws, or fails
 pub next_thrown : {p r : Algorithm (Unit {0})} {s t u : Store} {v : Value} (q : Algorithm (Unit {0}))
     → Leaves p s (r >>= (λ _. q)) t
-    → Comes r t u (Ends (throws v)) → Comes p s u (Ends (throws v))
+    → BigStep r t u (Ends (throws v)) → BigStep p s u (Ends (throws v))
 next_thrown q before step = before.on _ _ (comes_thrown _ step)
 
 pub next_failed : {p r : Algorithm (Unit {0})} {s t u : Store} {f : AlgorithmFault} (q : Algorithm (Unit {0}))
     → Leaves p s (r >>= (λ _. q)) t
-    → Comes r t u (Fails f) → Comes p s u (Fails f)
+    → BigStep r t u (Fails f) → BigStep p s u (Fails f)
 next_failed q before step = before.on _ _ (comes_failed _ step)
 
 -- variables of a program, from one of them on
@@ -63,7 +63,7 @@ globals_from {p} {s} {t} i names x before within is =
 
 pub variable_done : {p : Algorithm (Unit {0})} {s t u : Store} (env i : ℕ) (names : List Name) (x : Name)
     → Leaves p s (declare_variables env (drop i names)) t → i < length names → x ≡ get_or names i x
-    → Comes (declare_variable env x) t u (Ends (gives tt)) → Leaves p s (declare_variables env (drop (i + 1) names)) u
+    → BigStep (declare_variable env x) t u (Ends (gives tt)) → Leaves p s (declare_variables env (drop (i + 1) names)) u
 variable_done {p} {s} {t} env i names x before within is step =
     let split : drop i names ≡ x ∷ drop (i + 1) names =
     drop-cons names i x within ∙ ap (λ y. y ∷ drop (suc i) names) (sym is)
@@ -77,7 +77,7 @@ none_left (x ∷ xs) zero e = absurd (omega (arith, e))
 none_left (x ∷ xs) (suc i) e = none_left xs i (omega (arith, e))
 
 pub variables_done : {p : Algorithm (Unit {0})} {s t : Store} (env : ℕ) (names : List Name)
-    → Leaves p s (declare_variables env (drop (length names) names)) t → Comes p s t (Ends (gives tt))
+    → Leaves p s (declare_variables env (drop (length names) names)) t → BigStep p s t (Ends (gives tt))
 variables_done {p} {s} {t} env names before =
     all_done (subst (λ l. Leaves p s (declare_variables env l) t) (none_left names (length names) refl) before)
 
@@ -98,8 +98,8 @@ element_done {p} {s} {t} {u} id i args v x q before within is named as_data made
 pub function_done : {p : Algorithm (Unit {0})} {s t u v : Store} {id : ObjId} (c : Context) (i : ℕ)
     (fs : List Function) (f : Function) → Leaves p s (declare_functions (plain_functions (drop i fs)) c) t
     → i < length fs → f ≡ get_or fs i f
-    → Comes (make_function c.strict c.env (plain_function f)) t u (Ends (gives id))
-    → Comes (declare_function c.env (function_name (plain_function f)) id) u v (Ends (gives tt))
+    → BigStep (make_function c.strict c.env (plain_function f)) t u (Ends (gives id))
+    → BigStep (declare_function c.env (function_name (plain_function f)) id) u v (Ends (gives tt))
     → Leaves p s (declare_functions (plain_functions (drop (i + 1) fs)) c) v
 function_done {p} {s} {t} {u} {v} {id} c i fs f before within is made declared =
     let split : drop i fs ≡ f ∷ drop (i + 1) fs =

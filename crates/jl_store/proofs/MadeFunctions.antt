@@ -14,7 +14,7 @@ use Rattle.jl_meaning.specs.Store.{binding_named, binding_of, next_environment, 
 use Rattle.jl_meaning.specs.forms.Try.{enter_catch}
 use Rattle.jl_store.specs.Bindings.{catch_environment}
 use Rattle.jl_store.specs.Changes.{after}
-use Rattle.jl_store.specs.Comes.{leads, Comes}
+use Rattle.jl_store.specs.BigStep.{refines, BigStep}
 use Rattle.jl_store.proofs.Chains.{comes_on}
 use Rattle.jl_store.proofs.Steps.{comes_changed, comes_to}
 
@@ -43,28 +43,29 @@ in_catch env x v = do
 
 pub named_comes : (outer : Bool) (env inside : ℕ) (f : Func) (x : Name) (s t u v : Store) (id : ObjId)
     → inside ≡ next_environment s → t ≡ after (NewEnvironment env) s
-    → Comes (make_function outer inside f) t u (Ends (gives id))
+    → BigStep (make_function outer inside f) t u (Ends (gives id))
     → v ≡ after (NewBinding inside (record { name = x; value = value.Obj id; mutable = false })) u
-    → Comes (make_named outer env f (Some x)) s v (Ends (gives id))
+    → BigStep (make_named outer env f (Some x)) s v (Ends (gives id))
 named_comes outer env inside f x s t u v id is made first bound =
-    let rest : Comes (make_function outer inside f >>= with_name inside x) t v (Ends (gives id)) =
+    let rest : BigStep (make_function outer inside f >>= with_name inside x) t v (Ends (gives id)) =
     comes_on (with_name inside x) first (comes_changed _ bound comes_to) in
-    let all : Comes (change_store (NewEnvironment env) >>= (λ _. make_function outer inside f >>= with_name inside x)) s
+    let all : BigStep (change_store (NewEnvironment env) >>=
+    (λ _. make_function outer inside f >>= with_name inside x)) s
     v
     (Ends (gives id)) =
     comes_changed _ made rest in
     let here =
-    subst (λ k. leads (change_store (NewEnvironment env) >>= (λ _. make_function outer k f >>= with_name k x)) s v
+    subst (λ k. refines (change_store (NewEnvironment env) >>= (λ _. make_function outer k f >>= with_name k x)) s v
     (Ends (gives id)))
-    is all.leads in
-    record { leads = here }
+    is all.refines in
+    record { refines = here }
 
 pub expression_comes : (outer : Bool) (env : ℕ) (f : Func) (x : Option Name) (s t : Store) (id : ObjId)
-    → function_name f ≡ x → Comes (make_named outer env f x) s t (Ends (gives id))
-    → Comes (make_function_expression outer env f) s t (Ends (gives id))
+    → function_name f ≡ x → BigStep (make_named outer env f x) s t (Ends (gives id))
+    → BigStep (make_function_expression outer env f) s t (Ends (gives id))
 unfolding make_function_expression
 expression_comes outer env f x s t id is comes =
-    subst (λ o. Comes (make_named outer env f o) s t (Ends (gives id))) (sym is) comes
+    subst (λ o. BigStep (make_named outer env f o) s t (Ends (gives id))) (sym is) comes
 
 -- the environment of a `catch` is that of the language
 pub catch_is : (env : ℕ) (x : Name) (v : Value) → lift (catch_environment env x v) ≡ enter_catch env x v
@@ -73,12 +74,13 @@ catch_is env x v = refl
 pub catch_comes : (env inside : ℕ) (x : Name) (v : Value) (s t u : Store) → inside ≡ next_environment s
     → t ≡ after (NewEnvironment env) s
     → u ≡ after (NewBinding inside (record { name = x; value = v; mutable = true })) t
-    → Comes (catch_environment env x v) s u (Ends (gives inside))
+    → BigStep (catch_environment env x v) s u (Ends (gives inside))
 catch_comes env inside x v s t u is made bound =
-    let all : Comes (change_store (NewEnvironment env) >>= (λ _. in_catch inside x v)) s u (Ends (gives inside)) =
+    let all : BigStep (change_store (NewEnvironment env) >>= (λ _. in_catch inside x v)) s u (Ends (gives inside)) =
     comes_changed _ made (comes_changed _ bound comes_to) in
     record {
-      leads =
-          subst (λ k. leads (change_store (NewEnvironment env) >>= (λ _. in_catch k x v)) s u (Ends (gives inside))) is
-          all.leads;
+      refines =
+          subst (λ k. refines (change_store (NewEnvironment env) >>= (λ _. in_catch k x v)) s u
+          (Ends (gives inside))) is
+          all.refines;
     }

@@ -12,7 +12,7 @@ use Rattle.jl_meaning.specs.Defining.{define_own_property, plain_change, value_c
 use Rattle.jl_meaning.specs.Store.{Store}
 use Rattle.jl_meaning.specs.forms.Literals.{index_name}
 use Rattle.jl_store.specs.Answers.{finish_of}
-use Rattle.jl_store.specs.Comes.{Comes}
+use Rattle.jl_store.specs.BigStep.{BigStep}
 use Rattle.jl_store.specs.Defining.{LengthIsPrimitive}
 use Rattle.jl_store.specs.declared.answer.Finished.{Finished}
 use Rattle.jl_store.proofs.IndexNames.{no_length}
@@ -46,13 +46,14 @@ length_is = refl
 
 pub puts_length : (array : ObjId) (x : Name) (v w : Value) (change : Change) (from to : Store)
     (answer end : Finished Bool) → x ≡ codes "length" → w ≡ v → change ≡ value_change w → answer ≡ end
-    → Comes (define_own_property array x change) from to (finish_of answer)
-    → Comes (define_own_property array length_name (value_change v)) from to (finish_of end)
+    → BigStep (define_own_property array x change) from to (finish_of answer)
+    → BigStep (define_own_property array length_name (value_change v)) from to (finish_of end)
 puts_length array x v w change from to answer end name_is w_is change_is is comes =
-    subst (λ (f : Finished Bool). Comes (define_own_property array length_name (value_change v)) from to (finish_of f))
-    is (subst (λ y. Comes (define_own_property array y (value_change v)) from to (finish_of answer))
+    subst (λ (f : Finished Bool). BigStep (define_own_property array length_name (value_change v)) from to
+    (finish_of f))
+    is (subst (λ y. BigStep (define_own_property array y (value_change v)) from to (finish_of answer))
     (name_is ∙ sym length_is)
-    (subst (λ m. Comes (define_own_property array x (value_change m)) from to (finish_of answer)) w_is
-    (subst (λ c. Comes (define_own_property array x c) from to (finish_of answer)) change_is comes)))
+    (subst (λ m. BigStep (define_own_property array x (value_change m)) from to (finish_of answer)) w_is
+    (subst (λ c. BigStep (define_own_property array x c) from to (finish_of answer)) change_is comes)))
 
 pub ruleset elements = (no_length_given, one_kind_plain)

@@ -21,7 +21,7 @@ use Rattle.jl_meaning.specs.Properties.{own_or_inherited}
 use Rattle.jl_meaning.specs.Putting.{put_if}
 use Rattle.jl_meaning.specs.Store.{binding_of, Store}
 use Rattle.jl_store.specs.Changes.{after}
-use Rattle.jl_store.specs.Comes.{leads, Comes}
+use Rattle.jl_store.specs.BigStep.{refines, BigStep}
 use Rattle.jl_store.proofs.Defined.{done_comes}
 
 -- a data property that can be written
@@ -67,20 +67,20 @@ found s id x p is = ap (λ o. own_or_inherited o (inherited_property s id.0 x)) 
 
 defines : (s t : Store) (id : ObjId) (x : Name) (v : Value)
     → (is_array (object_at s.heap id.0).class && bytes_eq x length_name) ≡ false
-    → Comes (define_with_number id x (value_change v)) s t (Ends (gives true))
-    → Comes (define_own_property id x (value_change v)) s t (Ends (gives true))
+    → BigStep (define_with_number id x (value_change v)) s t (Ends (gives true))
+    → BigStep (define_own_property id x (value_change v)) s t (Ends (gives true))
 unfolding define_own_property
 defines s t id x v no_length comes = record {
-  leads = subst
-      (λ b. leads (with_length b (value_change v) (Some v) >>= define_with_number id x) s t (Ends (gives true)))
-      (sym no_length) comes.leads;
+  refines = subst
+      (λ b. refines (with_length b (value_change v) (Some v) >>= define_with_number id x) s t (Ends (gives true)))
+      (sym no_length) comes.refines;
 }
 
 value_comes : (id : ObjId) (x : Name) (v : Value) (s t : Store) → mapped_parameter s id.0 x ≡ None
     → IsTrue (takes_value_alone s.heap id.0 x)
     → Done ≡ (heaps.define_own_property s.heap id.0 x (value_change v)).1
     → t ≡ after (DefineProperty id x (value_change v)) s
-    → Comes
+    → BigStep
     (put_if (can_put (object_at s.heap id.0).extensible (get_property s id.0 x)) id x v (get_property s id.0 x))
     s t (Ends (gives true))
 value_comes id x v s t unmapped taken done made =
@@ -88,11 +88,11 @@ value_comes id x v s t unmapped taken done made =
     let present = Plain property.value true property.enumerable property.configurable in
     let kept = no_length (is_array (object_at s.heap id.0).class) (bytes_eq x length_name) _
     (second (is_writable (own s.heap id.0 x)) (keeps_length s.heap id.0 x) taken) in
-    let numbered : Comes (define_with_number id x (value_change v)) s t (Ends (gives true)) =
+    let numbered : BigStep (define_with_number id x (value_change v)) s t (Ends (gives true)) =
     done_comes id x (value_change v) s t t None Done made done refl (ap (option_map _) unmapped)
-    (record { leads = (refl, refl) }) in
+    (record { refines = (refl, refl) }) in
     subst
-    (λ p. Comes (put_if (can_put (object_at s.heap id.0).extensible p) id x v p) s t (Ends (gives true)))
+    (λ p. BigStep (put_if (can_put (object_at s.heap id.0).extensible p) id x v p) s t (Ends (gives true)))
     (sym (found s id x present (own_found s id x present unmapped property.is)))
     (defines s t id x v kept numbered)
 
@@ -102,7 +102,7 @@ pub value_put : {A : Type 0} (id : ObjId) (x : Name) (v : Value) (s t : Store) (
     → is_some found ≡ false → (IsOk r ↔ IsTrue (takes_value_alone s.heap id.0 x))
     → OnOk r (Done ≡ (heaps.define_own_property s.heap id.0 x (value_change v)).1)
     → OnOk r (t ≡ after (DefineProperty id x (value_change v)) s)
-    → OnOk r (Comes
+    → OnOk r (BigStep
     (put_if (can_put (object_at s.heap id.0).extensible (get_property s id.0 x)) id x v (get_property s id.0 x))
     s t (Ends (gives true)))
 value_put id x v s t found f (Ok u) is none taken done made =

@@ -1,6 +1,6 @@
 pub mod Environments
 pub mod Changes
-pub mod Comes
+pub mod BigStep
 pub mod Answers
 pub mod LookUps
 pub mod inner

@@ -1,13 +1,15 @@
 -- How what look-ups answer is seen.
 use Rattle.std.specs.Prelude.{false, true, Bool, None, Option, Some}
 use Rattle.jl_value.specs.declared.value.Value.{Value}
-use Rattle.jl_heap.specs.Objects.{unit_property}
+use Rattle.jl_heap.specs.Objects.{unit_property, Name}
 use Rattle.jl_heap.specs.declared.property.Prop.{Prop}
 use Rattle.jl_heap.specs.declared.property.Prop.TheVariants.{Accessor, Plain}
 use Rattle.jl_value.specs.declared.object.ObjId.{ObjId}
 use Rattle.jl_meaning.specs.FunctionObjects.{whole}
+use Rattle.jl_meaning.specs.Intrinsics.{global_object}
 use Rattle.jl_meaning.specs.Properties as meaning
 use Rattle.jl_meaning.specs.References as references
+use Rattle.jl_meaning.specs.Store.{binding_of, Store}
 use Rattle.jl_store.specs.declared.found.Found.{Found}
 use Rattle.jl_store.specs.declared.found.Found.TheVariants as found
 use Rattle.jl_store.specs.declared.found.Property.{Property}
@@ -39,6 +41,17 @@ data_value (Accessor _ _ _ _) = None
 abbrev pub is_data : Prop → Bool
 is_data (Plain _ _ _ _) = true
 is_data (Accessor _ _ _ _) = false
+
+-- what a data property holds that was found
+abbrev pub value_held : Option meaning.Property → Option Value
+value_held (Some (own, p)) = data_value p
+value_held None = None
+
+-- the value of what a name refers to, where that needs no call
+abbrev pub value_referred : Store → Name → references.Reference → Option Value
+value_referred store x (references.in_environment env) = Some (references.binding_value (binding_of store env x))
+value_referred store x references.on_global_object = value_held (meaning.get_property store global_object.0 x)
+value_referred store x references.unresolvable = None
 
 -- the getter and the setter of an accessor property
 abbrev pub getter_of : Prop → Option ObjId

@@ -5,7 +5,7 @@ ghost use Rattle.jl_meaning.specs.ArgumentsObject.{add_callee, add_elements, cre
 ghost use Rattle.jl_meaning.specs.ArgumentsObject.{mapping};
 ghost use Rattle.jl_meaning.specs.Parts.{gives};
 ghost use Rattle.jl_store.specs.Changes.{HasNames, IsFree};
-ghost use Rattle.jl_store.specs.Comes.{Comes};
+ghost use Rattle.jl_store.specs.BigStep.{BigStep};
 ghost use Rattle.jl_store.specs.Plain.{names_of};
 ghost use Rattle.jl_store.specs.inner.Arguments.{names_with, no_mappings};
 
@@ -87,7 +87,7 @@ impl Store {
         args: &[Value],
     ) -> Result<ObjId, NoMemory>
         ensures made { IfOk result (λ id.
-            Comes (create_arguments_object strict callee env (names_of params.now) args.now) self.old self.new
+            BigStep (create_arguments_object strict callee env (names_of params.now) args.now) self.old self.new
             (Ends (gives id))) }
         ensures rest { OnOk result (self.new.environments ≡ self.old.environments) }
     {
@@ -104,7 +104,7 @@ impl Store {
     /// Adds the arguments at their indices.
     fn add_elements(&mut self, id: ObjId, args: &[Value]) -> Result<(), NoMemory>
         requires { HasNames self.old id (names_with 0) }
-        ensures made { OnOk result (Comes (add_elements id 0 args.now) self.old self.new (Ends (gives tt))) }
+        ensures made { OnOk result (BigStep (add_elements id 0 args.now) self.old self.new (Ends (gives tt))) }
         ensures names { OnOk result (HasNames self.new id (names_with (length args.now))) }
         ensures rest { OnOk result (self.new.environments ≡ self.old.environments) }
     {
@@ -121,7 +121,7 @@ impl Store {
     fn add_callee(&mut self, strict: bool, callee: ObjId, id: ObjId) -> Result<(), NoMemory>
         requires callee { IsFree self.old id (codes "callee") }
         requires caller { IsFree self.old id (codes "caller") }
-        ensures made { OnOk result (Comes (add_callee strict callee id) self.old self.new (Ends (gives tt))) }
+        ensures made { OnOk result (BigStep (add_callee strict callee id) self.old self.new (Ends (gives tt))) }
         ensures rest { OnOk result (self.new.environments ≡ self.old.environments) }
     {
         let name = word(self.alloc, "callee")?;

@@ -7,11 +7,11 @@ ghost use Rattle.jl_meaning.specs.Parts.{gives};
 ghost use Rattle.jl_meaning.specs.References.{binding_value, set_mutable_binding};
 ghost use Rattle.jl_meaning.specs.Store.{binding_of};
 ghost use Rattle.jl_store.specs.Answers.{ends_with};
-ghost use Rattle.jl_store.specs.Comes.{Comes};
+ghost use Rattle.jl_store.specs.BigStep.{BigStep};
 ghost use Rattle.jl_store.specs.Bindings.{after_first, catch_environment, declare_variable, first_or_undefined};
 
 use crate::answer::Answer;
-use crate::environments::Bound;
+use crate::environments::{Bound, Rebinding};
 use crate::store::Store;
 use jl_ast::Ident;
 use jl_text::{NoMemory, Text};
@@ -21,7 +21,7 @@ use std::alloc::Global;
 impl Store {
     /// Binds a name to a value, which can be changed, whether it is bound in the environment already or not (10.5).
     pub fn declare_binding(&mut self, env: usize, name: &Text, value: Value) -> Result<(), NoMemory>
-        ensures { OnOk result (Comes (declare_binding env name.now value) self.old self.new (Ends (gives tt))) }
+        ensures { OnOk result (BigStep (declare_binding env name.now value) self.old self.new (Ends (gives tt))) }
     {
         if self.has_binding(env, name) {
             self.set_binding(env, name, value);
@@ -43,7 +43,7 @@ impl Store {
         params: &[Ident],
         args: &[Value],
     ) -> Result<(), NoMemory>
-        ensures { OnOk result (Comes (bind_parameters env (map (λ x. x.text) params.now) args.now) self.old self.new
+        ensures { OnOk result (BigStep (bind_parameters env (map (λ x. x.text) params.now) args.now) self.old self.new
             (Ends (gives tt))) }
     {
         let alloc = self.alloc;
@@ -58,7 +58,7 @@ impl Store {
 
     /// Binds the variables of a function that aren't bound yet to undefined (10.5, step 8).
     pub fn declare_variables(&mut self, env: usize, names: &[Text]) -> Result<(), NoMemory>
-        ensures { OnOk result (Comes (declare_variables env names.now) self.old self.new (Ends (gives tt))) }
+        ensures { OnOk result (BigStep (declare_variables env names.now) self.old self.new (Ends (gives tt))) }
     {
         for name in names {
             self.declare_variable(env, name)?;
@@ -68,7 +68,7 @@ impl Store {
 
     /// The same of one variable.
     fn declare_variable(&mut self, env: usize, name: &Text) -> Result<(), NoMemory>
-        ensures { OnOk result (Comes (declare_variable env name.now) self.old self.new (Ends (gives tt))) }
+        ensures { OnOk result (BigStep (declare_variable env name.now) self.old self.new (Ends (gives tt))) }
     {
         if self.has_binding(env, name) {
             return Ok(());
@@ -83,7 +83,7 @@ impl Store {
 
     /// Gives a binding another value, if it can be changed (10.2.1.1.3). Where it can't, that throws in strict
     /// code, and else nothing is done.
-    #[tactic(auto, using(crate::proofs::Chains::error_comes))]
+    #[tactic(auto, using(crate::proofs::Rebindings::changed_comes, crate::proofs::Rebindings::immutable_comes, crate::proofs::Rebindings::unbound_comes))]
     pub fn set_mutable_binding(
         &mut self,
         strict: bool,
@@ -92,22 +92,17 @@ impl Store {
         value: Value,
     ) -> Result<Answer<()>, NoMemory>
         ensures { IfOk result (λ answer.
-            Comes (set_mutable_binding strict env name.now value (binding_of self.old env name.now)) self.old self.new
+            BigStep (set_mutable_binding strict env name.now value (binding_of self.old env name.now)) self.old self.new
             (ends_with answer)) }
     {
-        let mutable = match self.binding(env, name) {
-            Some(bound) => bound.mutable,
-            None => return Ok(Answer::Gives(())),
-        };
-        if mutable {
-            self.set_binding(env, name, value);
-            return Ok(Answer::Gives(()));
+        match self.set_if_mutable(env, name, value) {
+            Rebinding::Changed => Ok(Answer::Gives(())),
+            Rebinding::Immutable => {
+                let answer = self.require(!strict, "cannot write")?;
+                Ok(answer)
+            }
+            Rebinding::Unbound => Ok(Answer::Gives(())),
         }
-        if !strict {
-            return Ok(Answer::Gives(()));
-        }
-        let thrown = self.throw_type_error("cannot write")?;
-        Ok(Answer::Throws(thrown))
     }
 
     /// The value of a name in an environment (8.7.1, 10.2.1.1.4), and undefined where it isn't bound there. It
@@ -123,7 +118,7 @@ impl Store {
 
     /// Makes the environment of a `catch` block, in which the caught value is bound (12.14).
     pub fn enter_catch(&mut self, env: usize, name: &Text, value: Value) -> Result<usize, NoMemory>
-        ensures { IfOk result (λ inside. Comes (catch_environment env name.now value) self.old self.new
+        ensures { IfOk result (λ inside. BigStep (catch_environment env name.now value) self.old self.new
             (Ends (gives inside))) }
     {
         let inside = self.new_environment(env)?;

@@ -10,10 +10,10 @@ ghost use Rattle.jl_heap.specs.declared.property.Defined.TheVariants.{Done};
 ghost use Rattle.jl_meaning.specs.Changes.{DefineProperty, DeleteProperty, NewBinding, NewEnvironment, NewObject};
 ghost use Rattle.jl_meaning.specs.Changes.{NewProperty, PreventExtensions, SetBinding, UnmapIndex};
 ghost use Rattle.jl_meaning.specs.Store.{binding_of, next_environment, next_object};
-ghost use Rattle.jl_store.specs.Changes.{after, IsFree};
-ghost use Rattle.jl_store.specs.Environments.{bound_to};
+ghost use Rattle.jl_store.specs.Changes.{after, after_rebinding, IsFree};
+ghost use Rattle.jl_store.specs.Environments.{bound_to, rebinding_of};
 
-use crate::environments::Bound;
+use crate::environments::{Bound, Rebinding};
 use crate::store::Store;
 use jl_heap::{Change, Defined, Inner, Prop};
 use jl_text::{NoMemory, Text};
@@ -131,5 +131,15 @@ impl Store {
         ensures { self.new ≡ after (SetBinding env name.now value) self.old }
     {
         self.environments.rebind(env, name, value);
+    }
+
+    /// Gives the binding of a name another value, where there is one that can be changed (10.2.1.1.3), in one look-up,
+    /// and says what was found. It takes no memory.
+    #[tactic(auto, using(crate::proofs::Rebindings::store_rebound))]
+    pub(crate) fn set_if_mutable(&mut self, env: usize, name: &Text, value: Value) -> Rebinding
+        ensures found { result ≡ rebinding_of (binding_of self.old env name.now) }
+        ensures made { self.new ≡ after_rebinding result env name.now value self.old }
+    {
+        self.environments.rebind_mutable(env, name, value)
     }
 }

@@ -7,7 +7,7 @@ ghost use Rattle.jl_meaning.specs.FunctionObjects.{function_name};
 ghost use Rattle.jl_meaning.specs.Parts.{gives};
 ghost use Rattle.jl_meaning.specs.Store.{binding_of};
 ghost use Rattle.jl_scope.specs.Names.{arguments_name};
-ghost use Rattle.jl_store.specs.Comes.{Comes};
+ghost use Rattle.jl_store.specs.BigStep.{BigStep};
 ghost use Rattle.jl_store.specs.Declarations.{bind_arguments_where, Declares};
 ghost use Rattle.jl_store.specs.Plain.{code_in, names_of, plain_code, plain_function, plain_functions};
 
@@ -50,7 +50,7 @@ impl Store {
         env: usize,
         strict: bool,
     ) -> Result<(), NoMemory>
-        ensures { OnOk result (Comes (declare_functions (plain_functions functions.now) (code_in env strict)) self.old
+        ensures { OnOk result (BigStep (declare_functions (plain_functions functions.now) (code_in env strict)) self.old
             self.new (Ends (gives tt))) }
     {
         for f in functions {
@@ -62,8 +62,8 @@ impl Store {
 
     /// Binds the name of a declared function.
     fn declare_function(&mut self, env: usize, f: &Function, id: ObjId) -> Result<(), NoMemory>
-        ensures { OnOk result (Comes (declare_function env (function_name (plain_function f.now)) id) self.old self.new
-            (Ends (gives tt))) }
+        ensures { OnOk result (BigStep (declare_function env (function_name (plain_function f.now)) id) self.old
+            self.new (Ends (gives tt))) }
     {
         if let Some(name) = &f.name {
             self.declare_binding(env, &name.text, Value::Obj(id))?;
@@ -82,7 +82,7 @@ impl Store {
         args: &[Value],
     ) -> Result<(), NoMemory>
         requires { IsNone (binding_of self.old env arguments_name) }
-        ensures { OnOk result (Comes (bind_arguments strict callee env (names_of params.now) args.now) self.old
+        ensures { OnOk result (BigStep (bind_arguments strict callee env (names_of params.now) args.now) self.old
             self.new (Ends (gives tt))) }
     {
         let name = word(self.alloc, "arguments")?;
@@ -106,7 +106,7 @@ impl Store {
         params: &[Ident],
         args: &[Value],
     ) -> Result<(), NoMemory>
-        ensures { OnOk result (Comes (bind_arguments_where mentioned strict callee env (names_of params.now) args.now)
+        ensures { OnOk result (BigStep (bind_arguments_where mentioned strict callee env (names_of params.now) args.now)
             self.old self.new (Ends (gives tt))) }
     {
         if !mentioned {
@@ -133,7 +133,7 @@ impl Store {
         env: usize,
     ) -> Result<(), NoMemory>
         requires { Declares (plain_code body.now) declared.now.variables.items declared.now.mentions_arguments }
-        ensures { OnOk result (Comes (declare_body (plain_code body.now) strict callee (names_of params.now) args.now
+        ensures { OnOk result (BigStep (declare_body (plain_code body.now) strict callee (names_of params.now) args.now
             (code_in env strict)) self.old self.new (Ends (gives tt))) }
     {
         self.bind_parameters(env, params, args)?;

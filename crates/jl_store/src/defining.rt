@@ -10,7 +10,7 @@ ghost use Rattle.jl_meaning.specs.Defining.{update_mapping_if};
 ghost use Rattle.jl_meaning.specs.Parts.{gives};
 ghost use Rattle.jl_meaning.specs.Properties.{mapped_parameter};
 ghost use Rattle.jl_store.specs.Answers.{finish_of};
-ghost use Rattle.jl_store.specs.Comes.{Comes};
+ghost use Rattle.jl_store.specs.BigStep.{BigStep};
 ghost use Rattle.jl_store.specs.Defining.{end_mapping_where, IsLengthOf, length_given, LengthIsPrimitive};
 ghost use Rattle.jl_store.specs.Defining.{remap_parameter, remapped_if, remapping_of};
 ghost use Rattle.jl_value.specs.Indices.{index_of};
@@ -37,7 +37,7 @@ struct Remapping {
 impl Store {
     /// An index, if the name is one, is mapped to no parameter from now on (10.6). It takes no memory.
     pub fn end_mapping(&mut self, id: ObjId, name: &Text)
-        ensures { Comes (end_mapping id (index_of name.now)) self.old self.new (Ends (gives tt)) }
+        ensures { BigStep (end_mapping id (index_of name.now)) self.old self.new (Ends (gives tt)) }
     {
         if let Some(index) = array_index(name.units()) {
             self.unmap_index(id, index);
@@ -45,7 +45,7 @@ impl Store {
     }
 
     fn end_mapping_where(&mut self, ends: bool, id: ObjId, name: &Text)
-        ensures { Comes (end_mapping_where ends id name.now) self.old self.new (Ends (gives tt)) }
+        ensures { BigStep (end_mapping_where ends id name.now) self.old self.new (Ends (gives tt)) }
     {
         if ends {
             self.end_mapping(id, name);
@@ -53,7 +53,7 @@ impl Store {
     }
 
     fn set_parameter(&mut self, env: usize, parameter: &Text, value: Option<Value>)
-        ensures { Comes (set_parameter (env, parameter.now) value) self.old self.new (Ends (gives tt)) }
+        ensures { BigStep (set_parameter (env, parameter.now) value) self.old self.new (Ends (gives tt)) }
     {
         if let Some(value) = value {
             self.set_binding(env, parameter, value);
@@ -61,7 +61,7 @@ impl Store {
     }
 
     fn remap(&mut self, id: ObjId, name: &Text, remapping: Remapping)
-        ensures { Comes (remap_parameter id name.now remapping.accessor remapping.value remapping.read_only
+        ensures { BigStep (remap_parameter id name.now remapping.accessor remapping.value remapping.read_only
             (remapping.env, remapping.parameter)) self.old self.new (Ends (gives tt)) }
     {
         let Remapping {
@@ -111,7 +111,7 @@ impl Store {
     ) -> Result<bool, NoMemory>
         requires one_kind { IsOneKind change }
         requires length { FitsLength self.old.heap id.0 name.now change }
-        ensures { IfOk result (λ done. Comes (define_with_number id name.now change) self.old self.new
+        ensures { IfOk result (λ done. BigStep (define_with_number id name.now change) self.old self.new
             (Ends (gives done))) }
     {
         let remapping = self.remapping(id, name, &change)?;
@@ -137,7 +137,7 @@ impl Store {
         requires one_kind { IsOneKind change }
         requires primitive { LengthIsPrimitive self.old.heap id.0 name.now change }
         ensures { IfOk result (λ end.
-            Comes (define_own_property id name.now change) self.old self.new (finish_of end)) }
+            BigStep (define_own_property id name.now change) self.old self.new (finish_of end)) }
     {
         let Some(value) = self.length_given(id, name, &change) else {
             return Ok(Finished::Gives(self.define_with_number(id, name, change)?));
@@ -183,7 +183,7 @@ impl Store {
     }
 
     fn remap_if(&mut self, id: ObjId, name: &Text, remapping: Option<Remapping>)
-        ensures { Comes (remapped_if id name.now remapping) self.old self.new (Ends (gives tt)) }
+        ensures { BigStep (remapped_if id name.now remapping) self.old self.new (Ends (gives tt)) }
     {
         if let Some(remapping) = remapping {
             self.remap(id, name, remapping);

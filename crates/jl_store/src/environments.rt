@@ -15,6 +15,15 @@ pub struct Bound {
     pub mutable: bool,
 }
 
+/// What comes of another value for the binding of a name, where only a binding that can be changed takes it
+/// (10.2.1.1.3).
+#[derive(Clone, Copy)]
+pub(crate) enum Rebinding {
+    Changed,
+    Immutable,
+    Unbound,
+}
+
 /// An environment: the index of the one around it, and its bindings in the order in which they were made.
 #[derive(Drop)]
 struct Scope {
@@ -47,6 +56,7 @@ impl Environments {
     ghost use Rattle.jl_meaning.specs.Store.{binding_named, no_environment};
     ghost use Rattle.jl_store.specs.Environments.{bound_to, environment_in, OutersAreBefore, with_bindings_in};
     ghost use Rattle.jl_store.specs.Environments.{outer_in, with_environment_in};
+    ghost use Rattle.jl_store.specs.Environments.{rebinding_of, with_rebinding};
     ghost use Rattle.jl_meaning.specs.Changes.{rebound};
 
     /// The global environment, which has index 0 and no bindings (10.2.3).
@@ -141,5 +151,37 @@ impl Environments {
         if let Some(bound) = scope.bindings.get_mut(name) {
             bound.value = value;
         }
+    }
+
+    /// Binds a name to another value, where it is bound in an environment and can be changed (10.2.1.1.3), in one
+    /// look-up, and says what was found there. It takes no memory.
+    pub(crate) fn rebind_mutable(&mut self, env: usize, name: &Text, value: Value) -> Rebinding
+        ensures found { result ≡ rebinding_of (binding_named name.now (environment_in self.old env).bindings) }
+        ensures made { self.new ≡ with_rebinding result self.old env name.now value }
+    {
+        if env >= self.scopes.len() {
+            return Rebinding::Unbound;
+        }
+        let scope = &mut self.scopes[env];
+        match scope.bindings.get_mut(name) {
+            Some(bound) => bound.rebind(value),
+            None => Rebinding::Unbound,
+        }
+    }
+}
+
+impl Bound {
+    ghost use Rattle.jl_store.specs.Environments.{rebinding, with_value_if};
+
+    /// Gives a binding another value, where it can be changed, and says whether it can.
+    fn rebind(&mut self, value: Value) -> Rebinding
+        ensures found { result ≡ rebinding self.old.mutable }
+        ensures made { self.new ≡ with_value_if self.old.mutable value self.old }
+    {
+        if !self.mutable {
+            return Rebinding::Immutable;
+        }
+        self.value = value;
+        Rebinding::Changed
     }
 }

@@ -2,7 +2,7 @@
 ghost use Rattle.std.specs.Prelude.{◌≡◌, IfOk};
 ghost use Rattle.jl_meaning.specs.Intrinsics.{prototype_of_error};
 ghost use Rattle.jl_store.specs.Answers.{ends_with, IsNotDefined, MakesError};
-ghost use Rattle.jl_store.specs.Comes.{Comes};
+ghost use Rattle.jl_store.specs.BigStep.{BigStep};
 ghost use Rattle.jl_meaning.specs.Errors.{require};
 
 use crate::answer::Answer;
@@ -54,7 +54,7 @@ impl Store {
     /// Throws a TypeError unless this is so.
     #[tactic(auto, using(crate::proofs::Chains::error_comes))]
     pub fn require(&mut self, holds: bool, message: &str) -> Result<Answer<()>, NoMemory>
-        ensures { IfOk result (λ answer. Comes (require holds message.now) self.old self.new (ends_with answer)) }
+        ensures { IfOk result (λ answer. BigStep (require holds message.now) self.old self.new (ends_with answer)) }
     {
         if holds {
             return Ok(Answer::Gives(()));

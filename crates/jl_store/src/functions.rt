@@ -3,7 +3,7 @@ ghost use Rattle.std.specs.Prelude.{◌≡◌, IfOk, OnOk};
 ghost use Rattle.jl_effects.specs.Running.{Ends};
 ghost use Rattle.jl_meaning.specs.FunctionObjects.{add_poison, create_function, thrower_property};
 ghost use Rattle.jl_meaning.specs.Parts.{gives};
-ghost use Rattle.jl_store.specs.Comes.{Comes};
+ghost use Rattle.jl_store.specs.BigStep.{BigStep};
 
 use crate::environments::Bound;
 use crate::store::Store;
@@ -57,7 +57,7 @@ impl Store {
         params: usize,
         env: usize,
     ) -> Result<ObjId, NoMemory>
-        ensures made { IfOk result (λ f. Comes (create_function strict function params env) self.old self.new
+        ensures made { IfOk result (λ f. BigStep (create_function strict function params env) self.old self.new
             (Ends (gives f))) }
         ensures rest { OnOk result (self.new.environments ≡ self.old.environments) }
     {
@@ -78,7 +78,7 @@ impl Store {
     fn add_poison_if(&mut self, strict: bool, f: ObjId) -> Result<(), NoMemory>
         requires caller { IsFree self.old f (codes "caller") }
         requires arguments { IsFree self.old f arguments_name }
-        ensures made { OnOk result (Comes (if strict then add_poison f else give tt) self.old self.new
+        ensures made { OnOk result (BigStep (if strict then add_poison f else give tt) self.old self.new
             (Ends (gives tt))) }
         ensures rest { OnOk result (self.new.environments ≡ self.old.environments) }
     {
@@ -94,7 +94,7 @@ impl Store {
     pub fn add_poison(&mut self, f: ObjId) -> Result<(), NoMemory>
         requires caller { IsFree self.old f (codes "caller") }
         requires arguments { IsFree self.old f arguments_name }
-        ensures made { OnOk result (Comes (add_poison f) self.old self.new (Ends (gives tt))) }
+        ensures made { OnOk result (BigStep (add_poison f) self.old self.new (Ends (gives tt))) }
         ensures rest { OnOk result (self.new.environments ≡ self.old.environments) }
     {
         let caller = word(self.alloc, "caller")?;
@@ -112,7 +112,7 @@ impl Store {
         env: usize,
         f: &Function,
     ) -> Result<ObjId, NoMemory>
-        ensures made { IfOk result (λ id. Comes (make_function outer_strict env (plain_function f.now)) self.old
+        ensures made { IfOk result (λ id. BigStep (make_function outer_strict env (plain_function f.now)) self.old
             self.new (Ends (gives id))) }
         ensures rest { OnOk result (self.new.environments ≡ self.old.environments) }
     {
@@ -130,7 +130,7 @@ impl Store {
         env: usize,
         f: &Function,
     ) -> Result<ObjId, NoMemory>
-        ensures { IfOk result (λ id. Comes (make_function_expression outer_strict env (plain_function f.now)) self.old
+        ensures { IfOk result (λ id. BigStep (make_function_expression outer_strict env (plain_function f.now)) self.old
             self.new (Ends (gives id))) }
     {
         match &f.name {
@@ -149,7 +149,7 @@ impl Store {
         f: &Function,
         name: &Text,
     ) -> Result<ObjId, NoMemory>
-        ensures { IfOk result (λ id. Comes (make_named outer_strict env (plain_function f.now) (Some name.now))
+        ensures { IfOk result (λ id. BigStep (make_named outer_strict env (plain_function f.now) (Some name.now))
             self.old self.new (Ends (gives id))) }
     {
         let inside = self.new_environment(env)?;

@@ -6,7 +6,7 @@ ghost use Rattle.jl_meaning.specs.Intrinsics.{global_object};
 ghost use Rattle.jl_meaning.specs.Properties.{get_property};
 ghost use Rattle.jl_store.specs.Answers.{finish_of};
 ghost use Rattle.jl_store.specs.Bindings.{declare_global_variable};
-ghost use Rattle.jl_store.specs.Comes.{Comes};
+ghost use Rattle.jl_store.specs.BigStep.{BigStep};
 
 use crate::answer::{Finished, finish};
 use crate::store::Store;
@@ -18,7 +18,7 @@ impl Store {
     /// Makes a property of the global object for a name that is declared: it can't be deleted (10.2.1.2.2). It
     /// throws where that can't be.
     pub fn create_global(&mut self, name: &Text) -> Result<Finished<()>, NoMemory>
-        ensures { IfOk result (λ end. Comes (create_global name.now) self.old self.new (finish_of end)) }
+        ensures { IfOk result (λ end. BigStep (create_global name.now) self.old self.new (finish_of end)) }
     {
         let change = Change {
             value: Some(Value::Undefined),
@@ -38,7 +38,7 @@ impl Store {
     /// Declares the variables of a program: each is undefined where the global object has no property of its name
     /// yet (10.5, step 8).
     pub fn declare_global_variables(&mut self, names: &[Text]) -> Result<Finished<()>, NoMemory>
-        ensures { IfOk result (λ end. Comes (declare_global_variables names.now) self.old self.new (finish_of end)) }
+        ensures { IfOk result (λ end. BigStep (declare_global_variables names.now) self.old self.new (finish_of end)) }
     {
         for name in names {
             match self.declare_global_variable(name)? {
@@ -52,7 +52,7 @@ impl Store {
 
     /// The same of one variable.
     fn declare_global_variable(&mut self, name: &Text) -> Result<Finished<()>, NoMemory>
-        ensures { IfOk result (λ end. Comes (declare_global_variable name.now) self.old self.new (finish_of end)) }
+        ensures { IfOk result (λ end. BigStep (declare_global_variable name.now) self.old self.new (finish_of end)) }
     {
         if self.has_property(ObjId::GLOBAL, name) {
             return Ok(Finished::Gives(()));
@@ -65,7 +65,7 @@ impl Store {
     /// deleted, or none, is made anew, and any other has to be one that the function may take over, or that throws.
     pub fn prepare_global(&mut self, name: &Text) -> Result<Finished<()>, NoMemory>
         ensures { IfOk result (λ end.
-            Comes (prepare_global name.now (get_property self.old global_object.0 name.now)) self.old self.new
+            BigStep (prepare_global name.now (get_property self.old global_object.0 name.now)) self.old self.new
             (finish_of end)) }
     {
         if self.can_be_made_anew(name) {

@@ -1,15 +1,15 @@
 //! Names, and what they refer to (10.2).
-ghost use Rattle.std.specs.Prelude.{◌≡◌};
+ghost use Rattle.std.specs.Prelude.{◌≡◌, IfOk};
 ghost use Rattle.std.specs.Option.{option_copied, option_map};
 ghost use Rattle.jl_meaning.specs.References.{identifier_reference, global_reference};
 ghost use Rattle.jl_meaning.specs.Store.{binding_of, has_binding};
 ghost use Rattle.jl_store.specs.Environments.{bound_to};
-ghost use Rattle.jl_store.specs.LookUps.{reference_seen};
+ghost use Rattle.jl_store.specs.LookUps.{reference_seen, value_referred};
 
 use crate::environments::Bound;
 use crate::store::Store;
-use jl_text::Text;
-use jl_value::ObjId;
+use jl_text::{NoMemory, Text};
+use jl_value::{ObjId, Value, share};
 
 /// What a name refers to (8.7): a binding of an environment, a property of the global object, or nothing.
 #[derive(Clone, Copy, PartialEq, Eq, Debug)]
@@ -48,6 +48,34 @@ impl Store {
                 Some(outer) => at = outer,
                 None => return self.global_reference(name),
             }
+        }
+    }
+
+    /// The value of a name that is bound, from an environment on, or by a data property of the global object (8.7.1,
+    /// 10.2.2.1). It takes no memory but where the units of a text have to be copied.
+    pub fn value_of_name(&self, env: usize, name: &Text) -> Result<Option<Value>, NoMemory>
+        ensures { IfOk result (λ value. value ≡ value_referred self.now name.now (identifier_reference self.now env
+            name.now)) }
+    {
+        let mut at = env;
+        loop {
+            if let Some(bound) = self.binding(at, name) {
+                return Ok(Some(share(self.alloc, &bound.value)?));
+            }
+            match self.outer_of(at) {
+                Some(outer) => at = outer,
+                None => return self.value_of_global(name),
+            }
+        }
+    }
+
+    /// The value of a name by a data property of the global object.
+    fn value_of_global(&self, name: &Text) -> Result<Option<Value>, NoMemory>
+        ensures { IfOk result (λ value. value ≡ value_referred self.now name.now (global_reference self.now name.now)) }
+    {
+        match self.get_property(ObjId::GLOBAL, name) {
+            Some(property) => property.found.value(self.alloc),
+            None => Ok(None),
         }
     }
 

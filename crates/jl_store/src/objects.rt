@@ -5,7 +5,7 @@ ghost use Rattle.jl_meaning.specs.Conversions.{new_string_object, new_wrapper, t
 ghost use Rattle.jl_meaning.specs.Parts.{gives};
 ghost use Rattle.jl_meaning.specs.forms.Literals.{new_array, new_plain_object};
 ghost use Rattle.jl_store.specs.Answers.{ends_with};
-ghost use Rattle.jl_store.specs.Comes.{Comes};
+ghost use Rattle.jl_store.specs.BigStep.{BigStep};
 
 use crate::answer::Answer;
 use crate::functions::data;
@@ -18,7 +18,7 @@ use jl_value::{Class, ObjId, Value};
 impl Store {
     /// Makes an array without elements (11.1.4).
     pub fn new_array(&mut self) -> Result<ObjId, NoMemory>
-        ensures { IfOk result (λ id. Comes new_array self.old self.new (Ends (gives id))) }
+        ensures { IfOk result (λ id. BigStep new_array self.old self.new (Ends (gives id))) }
     {
         let id = self.new_object(Class::Array, Some(ObjId::ARRAY_PROTOTYPE), Inner::Nothing)?;
         Ok(id)
@@ -26,7 +26,7 @@ impl Store {
 
     /// Makes an object without properties (11.1.5).
     pub fn new_plain_object(&mut self) -> Result<ObjId, NoMemory>
-        ensures { IfOk result (λ id. Comes new_plain_object self.old self.new (Ends (gives id))) }
+        ensures { IfOk result (λ id. BigStep new_plain_object self.old self.new (Ends (gives id))) }
     {
         let id = self.new_object(Class::Object, Some(ObjId::OBJECT_PROTOTYPE), Inner::Nothing)?;
         Ok(id)
@@ -39,7 +39,7 @@ impl Store {
         proto: ObjId,
         value: Value,
     ) -> Result<ObjId, NoMemory>
-        ensures { IfOk result (λ id. Comes (new_wrapper class proto value) self.old self.new (Ends (gives id))) }
+        ensures { IfOk result (λ id. BigStep (new_wrapper class proto value) self.old self.new (Ends (gives id))) }
     {
         let id = self.new_object(class, Some(proto), Inner::Wrapped(value))?;
         Ok(id)
@@ -48,7 +48,7 @@ impl Store {
     /// Makes a String object, which has the length of its text (15.5.2.1, 15.5.5.1).
     #[tactic(auto, unfolding(jl_heap::specs::Define::length_name))]
     pub fn new_string_object(&mut self, text: Text) -> Result<ObjId, NoMemory>
-        ensures { IfOk result (λ id. Comes (new_string_object text) self.old self.new (Ends (gives id))) }
+        ensures { IfOk result (λ id. BigStep (new_string_object text) self.old self.new (Ends (gives id))) }
     {
         let length = word(self.alloc, "length")?;
         let units = count(text.units().len())?;
@@ -61,7 +61,7 @@ impl Store {
     /// ToObject (9.9). It throws where the value is undefined or null.
     #[tactic(auto, unfolding(jl_meaning::specs::Conversions::to_object), using(crate::proofs::Chains::error_comes))]
     pub fn to_object(&mut self, value: &Value) -> Result<Answer<ObjId>, NoMemory>
-        ensures { IfOk result (λ answer. Comes (to_object value.now) self.old self.new (ends_with answer)) }
+        ensures { IfOk result (λ answer. BigStep (to_object value.now) self.old self.new (ends_with answer)) }
     {
         match value {
             Value::Undefined => {

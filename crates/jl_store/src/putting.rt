@@ -5,7 +5,7 @@ ghost use Rattle.jl_heap.specs.Objects.{object_at};
 ghost use Rattle.jl_meaning.specs.Parts.{gives};
 ghost use Rattle.jl_meaning.specs.Properties.{can_put, get_property};
 ghost use Rattle.jl_meaning.specs.Putting.{put_if};
-ghost use Rattle.jl_store.specs.Comes.{Comes};
+ghost use Rattle.jl_store.specs.BigStep.{BigStep};
 
 use crate::store::Store;
 use jl_text::Text;
@@ -17,7 +17,7 @@ impl Store {
     /// length on, and for an index that is mapped to a parameter; then all is as before. It takes no memory.
     #[tactic(auto, using(crate::proofs::PutValues::value_put))]
     pub fn set_value(&mut self, id: ObjId, name: &Text, value: Value) -> Result<(), Value>
-        ensures done { OnOk result (Comes
+        ensures done { OnOk result (BigStep
             (put_if (can_put (object_at self.old.heap id.0).extensible (get_property self.old id.0 name.now))
             id name.now value (get_property self.old id.0 name.now))
             self.old self.new (Ends (gives true))) }

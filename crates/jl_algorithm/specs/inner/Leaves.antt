@@ -8,12 +8,10 @@ use Rattle.jl_heap.specs.Objects.{Name}
 use Rattle.jl_meaning.specs.Expressions.{this_of}
 use Rattle.jl_meaning.specs.Intrinsics.{global_object}
 use Rattle.jl_meaning.specs.Parts.{Context, Expr, Running}
-use Rattle.jl_meaning.specs.Properties.{get_property, Property}
-use Rattle.jl_meaning.specs.References.{binding_value, identifier_reference, in_environment, on_global_object}
-use Rattle.jl_meaning.specs.References.{unresolvable, Reference}
-use Rattle.jl_meaning.specs.Store.{binding_of, Store}
+use Rattle.jl_meaning.specs.References.{identifier_reference}
+use Rattle.jl_meaning.specs.Store.{Store}
 use Rattle.jl_meaning.specs.forms.Names.{is_hooks}
-use Rattle.jl_store.specs.LookUps.{data_value}
+use Rattle.jl_store.specs.LookUps.{value_referred}
 use Rattle.jl_state.specs.Words.{running}
 use Rattle.jl_state.specs.declared.calls.Call.{Call}
 
@@ -21,17 +19,7 @@ use Rattle.jl_state.specs.declared.calls.Call.{Call}
 abbrev pub this_in : List Call → Value
 this_in calls = option_map_or (λ (r : Running). r.this) (running calls) (value.Obj global_object)
 
--- what a data property holds that was found
-abbrev pub value_held : Option Property → Option Value
-value_held (Some (own, p)) = data_value p
-value_held None = None
-
--- the value of what a name refers to
-abbrev pub value_referred : Store → Name → Reference → Option Value
-value_referred store x (in_environment env) = Some (binding_value (binding_of store env x))
-value_referred store x on_global_object = value_held (get_property store global_object.0 x)
-value_referred store x unresolvable = None
-
+-- the value of a name that is no hook's
 abbrev pub value_of_name : Store → (env : ℕ) → Name → Option Value
 value_of_name store env x = if is_hooks x then None else value_referred store x (identifier_reference store env x)
 

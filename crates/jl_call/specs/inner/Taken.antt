@@ -5,7 +5,7 @@ use Rattle.jl_ast.specs.declared.tree.Expr.{Expr}
 use Rattle.jl_value.specs.declared.value.Value.{Value}
 use Rattle.jl_meaning.specs.Expressions.{evaluate_all}
 use Rattle.jl_meaning.specs.Parts.{◌>>=◌, Answer, Part}
-use Rattle.jl_state.specs.Rest.{Gives}
+use Rattle.jl_state.specs.Rest.{RefinesExpression}
 use Rattle.jl_state.specs.Trees.{plain_forest}
 use Rattle.jl_state.specs.Words.{context_of, table_of}
 use Rattle.jl_state.specs.declared.act.Act.{Act}
@@ -22,6 +22,7 @@ values_in s so_far items here =
 pub record Takes (s : State) (here : Here) (so_far : List Value) (items : List Expr) (t : State) (values : List Value)
     (others : List Expr) : Type 0 where
   pub gives : (k : List Value → Part (Answer Value)) (u : State) (a : Act)
-      → Gives t (values_in s values others here >>= k) u a → Gives s (values_in s so_far items here >>= k) u a
+      → RefinesExpression t (values_in s values others here >>= k) u a
+      → RefinesExpression s (values_in s so_far items here >>= k) u a
   pub same : t ≡ record s { left = t.left }
   pub left : t.left ≤ s.left

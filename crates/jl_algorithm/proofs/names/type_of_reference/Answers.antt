@@ -4,7 +4,8 @@ use Rattle.jl_algorithm.proofs.names.type_of_reference.Goals as goal
 
 pub returns-in-InEnvironment : goal.returns-in-InEnvironment
 returns-in-InEnvironment c = record {
-  leads = IfOk-weaker _ _ _ (λ a leads. types_value c.args.state.now _ c.args.name.now _ _ c.in-InEnvironment.is leads)
-      c.type_of_value.ensures.leads;
-  falls = c.type_of_value.ensures.falls;
+  refines = IfOk-weaker _ _ _ (λ a refines. types_value c.args.state.now _ c.args.name.now _ _ c.in-InEnvironment.is
+      refines)
+      c.type_of_value.ensures.refines;
+  bounded = c.type_of_value.ensures.bounded;
 }

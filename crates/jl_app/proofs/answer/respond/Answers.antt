@@ -29,7 +29,8 @@ use Rattle.jl_app.proofs.answer.respond.Goals as goal
 pub accept-requires : goal.accept-requires
 accept-requires g c =
     let meant = c.requires.meant in
-    let is = form_for c.args.command meant.0 meant.0 meant.1 c.of-form.result meant.3 meant.2 c.of-form.ensures meant.3 in
+    let is = form_for c.args.command meant.0 meant.0 meant.1 c.of-form.result meant.3 meant.2 c.of-form.ensures meant.3
+    in
     subst (λ o. IfSome o (λ most. length c.args.bytes.now ≤ most)) (most_of_form meant.0 c.of-form.result is)
     (c.requires.small meant.0 meant.3)
 
@@ -89,7 +90,8 @@ returns-in-Err-Refused-clause-due g c = λ a means.
     IfOk-weaker c.refusal_answer.result _ _
     (λ given answered. (
       refused_only (refusal_words cause),
-      refused c.of-form.result cause (form_for c.args.command c.requires.meant.0 a c.requires.meant.1 c.of-form.result c.requires.meant.3
+      refused c.of-form.result cause (form_for c.args.command c.requires.meant.0 a c.requires.meant.1 c.of-form.result
+          c.requires.meant.3
           c.requires.meant.2 c.of-form.ensures means) why refl,
       record { status = answered.0; bytes = answered.1; told = refl },
     )) said
@@ -255,8 +257,11 @@ returns-in-Record-clause-due g c = λ a means.
       due.0,
       answers a (asked.record_of_run c.in-Record.budget) c.of-form.result p is.0
           (form_for c.args.command c.requires.meant.0 a c.requires.meant.1 c.of-form.result c.requires.meant.3
-          c.requires.meant.2 c.of-form.ensures means) read.0
-          (refl, subst (λ us. IsToldOfWoven (asked.record_of_run c.in-Record.budget) us p c.in-Record.budget due.0) read.1 due.1),
+          c.requires.meant.2 c.of-form.ensures means) read.0 (
+            refl,
+            subst (λ us. IsToldOfWoven
+                (asked.record_of_run c.in-Record.budget) us p c.in-Record.budget due.0) read.1 due.1,
+          ),
       given_said refl due.2,
     ))
     c.record_run.ensures
@@ -282,8 +287,11 @@ returns-in-Objects-clause-due g c = λ a means.
       due.0,
       answers a (asked.objects c.in-Objects.budget) c.of-form.result p is.0
           (form_for c.args.command c.requires.meant.0 a c.requires.meant.1 c.of-form.result c.requires.meant.3
-          c.requires.meant.2 c.of-form.ensures means) read.0
-          (refl, subst (λ us. IsToldOfWoven (asked.objects c.in-Objects.budget) us p c.in-Objects.budget due.0) read.1 due.1),
+          c.requires.meant.2 c.of-form.ensures means) read.0 (
+            refl,
+            subst (λ us. IsToldOfWoven
+                (asked.objects c.in-Objects.budget) us p c.in-Objects.budget due.0) read.1 due.1,
+          ),
       given_said refl due.2,
     ))
     c.objects.ensures

@@ -70,19 +70,22 @@ returns-clause-ends g c =
     )
 
 pub returns-in-Err-ReadFault-clause-no_misuse : goal.returns-in-Err-ReadFault-clause-no_misuse
-returns-in-Err-ReadFault-clause-no_misuse g c = λ a bytes p words is. c.accepted_scripts_run_without_misuse.ensures a bytes p is
+returns-in-Err-ReadFault-clause-no_misuse g c = λ a bytes p words is. c.accepted_scripts_run_without_misuse.ensures a
+    bytes p is
 
 pub returns-in-Err-ReadFault-clause-stands_alone : goal.returns-in-Err-ReadFault-clause-stands_alone
 returns-in-Err-ReadFault-clause-stands_alone g c = λ bytes p words is. c.text_stands_alone.ensures bytes p is
 
 pub returns-in-Err-NoMemory-clause-no_misuse : goal.returns-in-Err-NoMemory-clause-no_misuse
-returns-in-Err-NoMemory-clause-no_misuse g c = λ a bytes p words is. c.accepted_scripts_run_without_misuse.ensures a bytes p is
+returns-in-Err-NoMemory-clause-no_misuse g c = λ a bytes p words is. c.accepted_scripts_run_without_misuse.ensures a
+    bytes p is
 
 pub returns-in-Err-NoMemory-clause-stands_alone : goal.returns-in-Err-NoMemory-clause-stands_alone
 returns-in-Err-NoMemory-clause-stands_alone g c = λ bytes p words is. c.text_stands_alone.ensures bytes p is
 
 pub returns-in-Ok-write_all-clause-no_misuse : goal.returns-in-Ok-write_all-clause-no_misuse
-returns-in-Ok-write_all-clause-no_misuse g c = λ a bytes p words is. c.accepted_scripts_run_without_misuse.ensures a bytes p is
+returns-in-Ok-write_all-clause-no_misuse g c = λ a bytes p words is. c.accepted_scripts_run_without_misuse.ensures a
+    bytes p is
 
 pub returns-in-Ok-write_all-clause-stands_alone : goal.returns-in-Ok-write_all-clause-stands_alone
 returns-in-Ok-write_all-clause-stands_alone g c = λ bytes p words is. c.text_stands_alone.ensures bytes p is

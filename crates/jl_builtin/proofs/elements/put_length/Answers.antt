@@ -4,7 +4,7 @@ use Rattle.std.specs.Result.{result_ok}
 use Rattle.jl_builtin.proofs.Fills.{puts_length}
 use Rattle.jl_builtin.proofs.elements.put_length.Goals as goal
 
-pub returns-clause-leads : goal.returns-clause-leads
-returns-clause-leads c =
-    IfOk-weaker _ _ _ (λ a leads. puts_length c.args.state.now c.args.object c.args.length _ _ c.args.gives _ _
-    (sym c.number.ensures ∙ ap result_ok c.in-Ok.is) c.in_ok-name.ensures leads) c.put.ensures.leads
+pub returns-clause-refines : goal.returns-clause-refines
+returns-clause-refines c =
+    IfOk-weaker _ _ _ (λ a refines. puts_length c.args.state.now c.args.object c.args.length _ _ c.args.gives _ _
+    (sym c.number.ensures ∙ ap result_ok c.in-Ok.is) c.in_ok-name.ensures refines) c.put.ensures.refines

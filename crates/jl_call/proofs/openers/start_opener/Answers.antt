@@ -3,8 +3,8 @@ use Rattle.std.proofs.lemmas.Result.{IfOk-weaker}
 use Rattle.jl_call.proofs.Pairs.{took_first}
 use Rattle.jl_call.proofs.openers.start_opener.Goals as goal
 
-pub returns-clause-leads : goal.returns-clause-leads
-returns-clause-leads c =
-    IfOk-weaker _ _ _ (λ a leads. took_first c.args.id c.args.opener c.args.values.now c.args.second c.args.here
-    c.args.state.now _ _ _ _ (c.if-not-spend.ensures.took refl) (c.if-not-spend.ensures.left refl) leads)
-    c.enter_opener.ensures.leads
+pub returns-clause-refines : goal.returns-clause-refines
+returns-clause-refines c =
+    IfOk-weaker _ _ _ (λ a refines. took_first c.args.id c.args.opener c.args.values.now c.args.second c.args.here
+    c.args.state.now _ _ _ _ (c.if-not-spend.ensures.took refl) (c.if-not-spend.ensures.left refl) refines)
+    c.enter_opener.ensures.refines

@@ -10,10 +10,10 @@ use Rattle.jl_state.specs.declared.value_frame.ValueFrame.TheVariants as waiting
 use Rattle.jl_expression.proofs.ByKind.{of_same}
 use Rattle.jl_expression.proofs.calls.begin_new.Goals as goal
 
-pub returns-clause-leads : goal.returns-clause-leads
-returns-clause-leads c =
+pub returns-clause-refines : goal.returns-clause-refines
+returns-clause-refines c =
     let s = c.args.state.now in
-    IfOk-weaker _ _ _ (λ a leads. of_same (λ (x : parts.Expr). evaluate (table_of s.functions) x
+    IfOk-weaker _ _ _ (λ a refines. of_same (λ (x : parts.Expr). evaluate (table_of s.functions) x
     (context_of s.calls c.args.here) >>= value_after (table_of s.functions) s.calls (waiting.Callee value.Undefined true
-    c.args.args c.args.here)) s c.deref.result.now c.args.constructor.now.value _ _ c.deref.ensures leads)
-    c.begin_callee.ensures.leads
+    c.args.args c.args.here)) s c.deref.result.now c.args.constructor.now.value _ _ c.deref.ensures refines)
+    c.begin_callee.ensures.refines

@@ -7,8 +7,8 @@ use Rattle.jl_state.proofs.Stores.{works_comes}
 use Rattle.jl_builtin.proofs.Ends.{end_failed, end_given, end_thrown}
 use Rattle.jl_lib_array.proofs.arrays.array_of_values.Goals as goal
 
-pub returns-in-Gives-clause-leads : goal.returns-in-Gives-clause-leads
-returns-in-Gives-clause-leads c =
+pub returns-in-Gives-clause-refines : goal.returns-in-Gives-clause-refines
+returns-in-Gives-clause-refines c =
     works_comes c.args.state.now (record c.args.state.now { store = c.new_array.new.self }) refl new_array
     c.in_ok-array.array
     (λ a. add_all a 0 c.args.values.now >>= λ _. give_object a) _ _ c.in_ok-array.ensures
@@ -17,8 +17,8 @@ returns-in-Gives-clause-leads c =
     refl (add_all c.in_ok-array.array 0 c.args.values.now) (λ _. give_object c.in_ok-array.array) _
     c.in_ok-answer.ensures _ _ _ c.in-Gives.is (record { is = λ kept told. refl }))
 
-pub returns-in-Throws-clause-leads : goal.returns-in-Throws-clause-leads
-returns-in-Throws-clause-leads c =
+pub returns-in-Throws-clause-refines : goal.returns-in-Throws-clause-refines
+returns-in-Throws-clause-refines c =
     works_comes c.args.state.now (record c.args.state.now { store = c.new_array.new.self }) refl new_array
     c.in_ok-array.array
     (λ a. add_all a 0 c.args.values.now >>= λ _. give_object a) _ _ c.in_ok-array.ensures
@@ -27,8 +27,8 @@ returns-in-Throws-clause-leads c =
     refl (add_all c.in_ok-array.array 0 c.args.values.now) (λ _. give_object c.in_ok-array.array) _
     c.in_ok-answer.ensures _ c.in-Throws.is)
 
-pub returns-in-Fails-clause-leads : goal.returns-in-Fails-clause-leads
-returns-in-Fails-clause-leads c =
+pub returns-in-Fails-clause-refines : goal.returns-in-Fails-clause-refines
+returns-in-Fails-clause-refines c =
     works_comes c.args.state.now (record c.args.state.now { store = c.new_array.new.self }) refl new_array
     c.in_ok-array.array
     (λ a. add_all a 0 c.args.values.now >>= λ _. give_object a) _ _ c.in_ok-array.ensures

@@ -7,15 +7,15 @@ use Rattle.jl_progress.specs.Arrays.{with_length}
 use Rattle.jl_builtin.proofs.Ends.{answer_given, answer_thrown}
 use Rattle.jl_lib_array.proofs.lengths.begin_with_length.Goals as goal
 
-pub returns-in-Gives-clause-leads : goal.returns-in-Gives-clause-leads
-returns-in-Gives-clause-leads c =
-    IfOk-weaker _ _ _ (λ a leads. answer_given c.args.state.now
+pub returns-in-Gives-clause-refines : goal.returns-in-Gives-clause-refines
+returns-in-Gives-clause-refines c =
+    IfOk-weaker _ _ _ (λ a refines. answer_given c.args.state.now
     (record c.args.state.now { store = c.to_object.new.self }) refl (to_object c.args.call.this)
     (λ o. get_length o >>= with_length c.args.function o c.args.call.args) _ c.in_ok-answer.ensures _ _ _
-    c.in-Gives.is leads) c.get_length.ensures.leads
+    c.in-Gives.is refines) c.get_length.ensures.refines
 
-pub returns-clause-leads : goal.returns-clause-leads
-returns-clause-leads c =
+pub returns-clause-refines : goal.returns-clause-refines
+returns-clause-refines c =
     answer_thrown c.args.state.now (record c.args.state.now { store = c.to_object.new.self }) refl
     (to_object c.args.call.this) (λ o. get_length o >>= with_length c.args.function o c.args.call.args)
     _ c.in_ok-answer.ensures _ c.in-Throws.is

@@ -2,12 +2,12 @@ use Rattle.std.proofs.lemmas.Result.{IfOk-weaker}
 use Rattle.jl_lib_array.proofs.Moved.{moves_down_missing, moves_down_there}
 use Rattle.jl_lib_array.proofs.moving.move_one_down.Goals as goal
 
-pub returns-then-branch-clause-leads : goal.returns-then-branch-clause-leads
-returns-then-branch-clause-leads c =
-    IfOk-weaker _ _ _ (λ a leads. moves_down_there _ _ _ c.args.moving c.args.next _ _ c.in_ok-from.ensures
-    c.in_ok-has_index.ensures c.if-branch.true leads) c.get_for.ensures.leads
+pub returns-then-branch-clause-refines : goal.returns-then-branch-clause-refines
+returns-then-branch-clause-refines c =
+    IfOk-weaker _ _ _ (λ a refines. moves_down_there _ _ _ c.args.moving c.args.next _ _ c.in_ok-from.ensures
+    c.in_ok-has_index.ensures c.if-branch.true refines) c.get_for.ensures.refines
 
-pub returns-clause-leads : goal.returns-clause-leads
-returns-clause-leads c =
-    IfOk-weaker _ _ _ (λ a leads. moves_down_missing _ _ _ c.args.moving c.args.next _ _ _ c.in_ok-from.ensures
-    c.in_ok-has_index.ensures c.if-branch.false c.in_ok-to.ensures leads) c.delete_then.ensures.leads
+pub returns-clause-refines : goal.returns-clause-refines
+returns-clause-refines c =
+    IfOk-weaker _ _ _ (λ a refines. moves_down_missing _ _ _ c.args.moving c.args.next _ _ _ c.in_ok-from.ensures
+    c.in_ok-has_index.ensures c.if-branch.false c.in_ok-to.ensures refines) c.delete_then.ensures.refines

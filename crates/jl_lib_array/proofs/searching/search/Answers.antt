@@ -7,23 +7,23 @@ use Rattle.jl_builtin.proofs.Waits.{integer_waits}
 use Rattle.jl_lib_array.proofs.Searches.{nothing_to_search, searches_all, searches_from}
 use Rattle.jl_lib_array.proofs.searching.search.Goals as goal
 
-pub returns-then-length-eq0-clause-leads : goal.returns-then-length-eq0-clause-leads
-returns-then-length-eq0-clause-leads c =
+pub returns-then-length-eq0-clause-refines : goal.returns-then-length-eq0-clause-refines
+returns-then-length-eq0-clause-refines c =
     nothing_to_search _ c.args.direction c.args.object c.args.length c.args.args.now _ c.if-length-eq0.true
     c.in_ok-index_or_none.ensures
 
-pub returns-in_default-clause-leads : goal.returns-in_default-clause-leads
-returns-in_default-clause-leads c =
-    IfOk-weaker _ _ _ (λ a leads. searches_all _ c.args.direction c.args.object c.args.length c.args.args.now _ _ _ _
+pub returns-in_default-clause-refines : goal.returns-in_default-clause-refines
+returns-in_default-clause-refines c =
+    IfOk-weaker _ _ _ (λ a refines. searches_all _ c.args.direction c.args.object c.args.length c.args.args.now _ _ _ _
     c.if-length-eq0.false (sym c.in_ok-from.ensures ∙ c.in_default.is)
-    (c.in_ok-sought.ensures ∙ ap (λ l. argument_of l 0) c.items.ensures) c.first_place-at.ensures leads)
-    c.go_on_searching.ensures.leads
+    (c.in_ok-sought.ensures ∙ ap (λ l. argument_of l 0) c.items.ensures) c.first_place-at.ensures refines)
+    c.go_on_searching.ensures.refines
 
-pub returns-clause-leads : goal.returns-clause-leads
-returns-clause-leads c =
-    IfOk-weaker _ _ _ (λ a leads. searches_from _ c.args.direction c.args.object c.args.length c.args.args.now _ _ _ _
+pub returns-clause-refines : goal.returns-clause-refines
+returns-clause-refines c =
+    IfOk-weaker _ _ _ (λ a refines. searches_from _ c.args.direction c.args.object c.args.length c.args.args.now _ _ _ _
     c.if-length-eq0.false (sym c.in_ok-from.ensures ∙ c.in-Some.is)
     (c.in_ok-sought.ensures ∙ ap (λ l. argument_of l 0) c.items.ensures) (integer_waits _ _ (progress.ArrayCall
     (array_call.SearchFrom c.args.object c.args.length c.in_ok-sought.sought c.args.direction)) (λ z. search_from
     c.args.direction c.args.object c.args.length c.in_ok-sought.sought (place_from c.args.direction z c.args.length))
-    c.in-Some.from _ _ (λ w. refl) c.in_ok-push_builtin.ensures.waits leads)) c.to_primitive.ensures.leads
+    c.in-Some.from _ _ (λ w. refl) c.in_ok-push_builtin.ensures.waits refines)) c.to_primitive.ensures.refines

@@ -12,18 +12,18 @@ use Rattle.jl_builtin.proofs.Ends.{answer_given, answer_thrown}
 use Rattle.jl_lib_array.proofs.Slices.{slice_begins}
 use Rattle.jl_lib_array.proofs.slicing.array_slice.Goals as goal
 
-pub returns-in-Gives-clause-leads : goal.returns-in-Gives-clause-leads
-returns-in-Gives-clause-leads c =
-    IfOk-weaker _ _ _ (λ a leads. slice_begins _ (call_of c.args.call) _ _ (answer_given c.args.state.now
+pub returns-in-Gives-clause-refines : goal.returns-in-Gives-clause-refines
+returns-in-Gives-clause-refines c =
+    IfOk-weaker _ _ _ (λ a refines. slice_begins _ (call_of c.args.call) _ _ (answer_given c.args.state.now
     (record c.args.state.now { store = c.to_object.new.self }) refl (to_object c.args.call.this) (λ o. new_array >>=
     λ a. get_length o >>= with_length (length_for.Slice a) o c.args.call.args) _ c.in_ok-answer.ensures _ _ _
     c.in-Gives.is (works_comes (record c.args.state.now { store = c.to_object.new.self })
     (record c.args.state.now { store = c.new_array.new.self }) refl new_array c.in_ok-array-in-Gives.array (λ a.
     get_length c.in-Gives.object >>= with_length (length_for.Slice a) c.in-Gives.object c.args.call.args) _ _
-    c.in_ok-array-in-Gives.ensures leads))) c.get_length.ensures.leads
+    c.in_ok-array-in-Gives.ensures refines))) c.get_length.ensures.refines
 
-pub returns-clause-leads : goal.returns-clause-leads
-returns-clause-leads c =
+pub returns-clause-refines : goal.returns-clause-refines
+returns-clause-refines c =
     slice_begins _ (call_of c.args.call) _ _
     (answer_thrown c.args.state.now (record c.args.state.now { store = c.to_object.new.self }) refl
     (to_object c.args.call.this) (λ o. new_array >>= λ a. get_length o >>= with_length (length_for.Slice a) o

@@ -8,15 +8,16 @@ use Rattle.jl_builtin.proofs.Waits.{integer_waits}
 use Rattle.jl_lib_array.proofs.Slices.{converts_end, ends_with_length}
 use Rattle.jl_lib_array.proofs.slicing.slice_to.Goals as goal
 
-pub returns-then-is_undefined-clause-leads : goal.returns-then-is_undefined-clause-leads
-returns-then-is_undefined-clause-leads c =
-    IfOk-weaker _ _ _ (λ a leads. ends_with_length _ c.args.object c.args.array c.args.length c.args.start c.args.end _
-    _ (sym c.is_undefined.ensures ∙ c.if-is_undefined.true) leads) c.begin_copy.ensures.leads
+pub returns-then-is_undefined-clause-refines : goal.returns-then-is_undefined-clause-refines
+returns-then-is_undefined-clause-refines c =
+    IfOk-weaker _ _ _ (λ a refines. ends_with_length _ c.args.object c.args.array c.args.length c.args.start c.args.end
+    _
+    _ (sym c.is_undefined.ensures ∙ c.if-is_undefined.true) refines) c.begin_copy.ensures.refines
 
-pub returns-clause-leads : goal.returns-clause-leads
-returns-clause-leads c =
-    IfOk-weaker _ _ _ (λ a leads. converts_end _ c.args.object c.args.array c.args.length c.args.start c.args.end _ _
+pub returns-clause-refines : goal.returns-clause-refines
+returns-clause-refines c =
+    IfOk-weaker _ _ _ (λ a refines. converts_end _ c.args.object c.args.array c.args.length c.args.start c.args.end _ _
     (sym c.is_undefined.ensures ∙ c.if-is_undefined.false) (integer_waits _ _ (progress.ArrayCall (array_call.SliceEnd
     c.args.object c.args.array c.args.length c.args.start)) (λ z. copy_from c.args.object c.args.start c.args.array
     (relative_index z c.args.length - c.args.start) 0) c.args.end _ _ (λ w. refl) c.in_ok-push_builtin.ensures.waits
-    leads)) c.to_primitive.ensures.leads
+    refines)) c.to_primitive.ensures.refines

@@ -7,9 +7,9 @@ use Rattle.jl_builtin.proofs.Waits.{number_given}
 use Rattle.jl_lib_array.proofs.CallCases.{works_at}
 use Rattle.jl_lib_array.proofs.slicing.step_slice_start.Goals as goal
 
-pub returns-clause-leads : goal.returns-clause-leads
-returns-clause-leads c =
-    IfOk-weaker _ _ _ (λ a leads. number_given _ c.args.p.now _ _ (λ n. slice_to c.args.object c.args.array
+pub returns-clause-refines : goal.returns-clause-refines
+returns-clause-refines c =
+    IfOk-weaker _ _ _ (λ a refines. number_given _ c.args.p.now _ _ (λ n. slice_to c.args.object c.args.array
     c.args.length (relative_index (integer_of n) c.args.length) c.args.end) _ _ c.number_of_primitive.ensures
     c.in-Some.is (works_at _ _ _ (λ (m : ℕ). slice_to c.args.object c.args.array c.args.length m c.args.end) _ _
-    c.relative_index-start.ensures leads)) c.slice_to.ensures.leads
+    c.relative_index-start.ensures refines)) c.slice_to.ensures.refines

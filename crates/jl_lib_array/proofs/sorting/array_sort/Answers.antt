@@ -5,13 +5,13 @@ use Rattle.jl_state.specs.Words.{call_of}
 use Rattle.jl_lib_array.proofs.Starts.{sorts, sorts_not}
 use Rattle.jl_lib_array.proofs.sorting.array_sort.Goals as goal
 
-pub returns-then-not-is_undefined-clause-leads : goal.returns-then-not-is_undefined-clause-leads
-returns-then-not-is_undefined-clause-leads c =
+pub returns-then-not-is_undefined-clause-refines : goal.returns-then-not-is_undefined-clause-refines
+returns-then-not-is_undefined-clause-refines c =
     sorts_not _ (call_of c.args.call) _ _ _ (c.in_ok-comparator.ensures ∙ ap (λ l. argument_of l 0) c.items.ensures)
-    (sym c.is_undefined.ensures ∙ c.if-not-is_undefined.true) (c.unsupported.ensures.leads c.args.state.now)
+    (sym c.is_undefined.ensures ∙ c.if-not-is_undefined.true) (c.unsupported.ensures.refines c.args.state.now)
 
-pub returns-clause-leads : goal.returns-clause-leads
-returns-clause-leads c =
-    IfOk-weaker _ _ _ (λ a leads. sorts _ (call_of c.args.call) _ _ _ (c.in_ok-comparator.ensures ∙ ap
-    (λ l. argument_of l 0) c.items.ensures) (sym c.is_undefined.ensures ∙ c.if-not-is_undefined.false) leads)
-    c.begin_with_length.ensures.leads
+pub returns-clause-refines : goal.returns-clause-refines
+returns-clause-refines c =
+    IfOk-weaker _ _ _ (λ a refines. sorts _ (call_of c.args.call) _ _ _ (c.in_ok-comparator.ensures ∙ ap
+    (λ l. argument_of l 0) c.items.ensures) (sym c.is_undefined.ensures ∙ c.if-not-is_undefined.false) refines)
+    c.begin_with_length.ensures.refines

@@ -1,5 +1,5 @@
 use Rattle.jl_lib_array.proofs.splicing.copy_removed.Goals as goal
 
-pub returns-clause-leads : goal.returns-clause-leads
-returns-clause-leads c =
-    c.begin_turn.ensures.leads
+pub returns-clause-refines : goal.returns-clause-refines
+returns-clause-refines c =
+    c.begin_turn.ensures.refines

@@ -7,15 +7,16 @@ use Rattle.jl_builtin.proofs.Waits.{number_outside}
 use Rattle.jl_lib_array.proofs.Spliced.{splices_at}
 use Rattle.jl_lib_array.proofs.splicing.step_splice_count.Goals as goal
 
-pub returns-in_default-clause-leads : goal.returns-in_default-clause-leads
-returns-in_default-clause-leads c =
+pub returns-in_default-clause-refines : goal.returns-in_default-clause-refines
+returns-in_default-clause-refines c =
     number_outside _ c.args.p.now _
     (λ n. splice_at c.args.object c.args.array c.args.length c.args.start
     (clamp (integer_of n) (c.args.length - c.args.start)) (drop 2 c.args.args.now))
     c.number_of_primitive.ensures c.in_default.is
 
-pub returns-clause-leads : goal.returns-clause-leads
-returns-clause-leads c =
-    IfOk-weaker _ _ _ (λ a leads. splices_at _ _ _ c.args.object c.args.array c.args.length c.args.args.now c.args.p.now
+pub returns-clause-refines : goal.returns-clause-refines
+returns-clause-refines c =
+    IfOk-weaker _ _ _ (λ a refines. splices_at _ _ _ c.args.object c.args.array c.args.length c.args.args.now
+    c.args.p.now
     c.in-Some.n c.args.start _ _ _ (sym c.in-Some.is ∙ c.number_of_primitive.ensures) c.saturating_sub.ensures
-    c.clamp-removed.ensures c.in_ok-items.ensures leads) c.copy_removed.ensures.leads
+    c.clamp-removed.ensures c.in_ok-items.ensures refines) c.copy_removed.ensures.refines

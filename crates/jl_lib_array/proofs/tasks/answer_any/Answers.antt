@@ -17,13 +17,13 @@ differs true false tested same = let differ = same in cc
 differs false true tested same = let differ = same in cc
 differs false false tested same = let differ = tested in cc
 
-pub returns-then-truth-wanted-clause-leads : goal.returns-then-truth-wanted-clause-leads
-returns-then-truth-wanted-clause-leads c =
+pub returns-then-truth-wanted-clause-refines : goal.returns-then-truth-wanted-clause-refines
+returns-then-truth-wanted-clause-refines c =
     any_ends _ (walk_of c.args.walk) c.args.wanted c.args.index c.args.v.now _ c.to_boolean-truth.ensures
     (is_same c.to_boolean-truth.result c.args.wanted c.if-truth-wanted.true)
 
-pub returns-clause-leads : goal.returns-clause-leads
-returns-clause-leads c =
-    IfOk-weaker _ _ _ (λ a leads. any_passed _ (walk_of c.args.walk) _ _ c.args.wanted c.args.index _ c.args.v.now _
+pub returns-clause-refines : goal.returns-clause-refines
+returns-clause-refines c =
+    IfOk-weaker _ _ _ (λ a refines. any_passed _ (walk_of c.args.walk) _ _ c.args.wanted c.args.index _ c.args.v.now _
     c.to_boolean-truth.ensures (differs c.to_boolean-truth.result c.args.wanted c.if-truth-wanted.false)
-    c.in_ok-at.ensures leads) c.go_on_walking.ensures.leads
+    c.in_ok-at.ensures refines) c.go_on_walking.ensures.refines

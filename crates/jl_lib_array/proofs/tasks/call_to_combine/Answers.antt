@@ -6,8 +6,8 @@ use Rattle.jl_algorithm.proofs.Called.{falls_called}
 use Rattle.jl_lib_array.proofs.Answering.{combines_now}
 use Rattle.jl_lib_array.proofs.tasks.call_to_combine.Goals as goal
 
-pub returns-clause-leads : goal.returns-clause-leads
-returns-clause-leads c =
+pub returns-clause-refines : goal.returns-clause-refines
+returns-clause-refines c =
     works_act _ _ _ _ c.call.ensures _ (combines_now _ _ c.args.walk c.args.so_far c.args.v c.args.direction
     c.args.index _
     (c.in_ok-args.ensures
@@ -15,6 +15,6 @@ returns-clause-leads c =
     (c.in_ok-push.ensures.ok ∙ ap (λ l. l ++ c.args.so_far ∷ []) c.new-before.ensures))
     c.in_ok-push_builtin.ensures.waits)
 
-pub returns-clause-falls : goal.returns-clause-falls
-returns-clause-falls c =
+pub returns-clause-bounded : goal.returns-clause-bounded
+returns-clause-bounded c =
     falls_called _ _ c.call.ensures _ _ _ _ c.in_ok-push_builtin.ensures.pushed (omega arith)

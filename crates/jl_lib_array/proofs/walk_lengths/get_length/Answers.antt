@@ -6,9 +6,9 @@ use Rattle.jl_progress.specs.declared.progress.Progress.TheVariants as progress
 use Rattle.jl_builtin.proofs.Waits.{length_waits}
 use Rattle.jl_lib_array.proofs.walk_lengths.get_length.Goals as goal
 
-pub returns-clause-leads : goal.returns-clause-leads
-returns-clause-leads c =
-    IfOk-weaker _ _ _ (λ a leads. length_waits _ _ (progress.ArrayCall
+pub returns-clause-refines : goal.returns-clause-refines
+returns-clause-refines c =
+    IfOk-weaker _ _ _ (λ a refines. length_waits _ _ (progress.ArrayCall
     (array_call.Length c.args.object c.args.args c.args.purpose)) c.args.object _
     (with_length c.args.purpose c.args.object c.args.args) _ _ c.in_ok-name.ensures (λ v. refl)
-    c.in_ok-push_builtin.ensures.waits leads) c.get.ensures.leads
+    c.in_ok-push_builtin.ensures.waits refines) c.get.ensures.refines

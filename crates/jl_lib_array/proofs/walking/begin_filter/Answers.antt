@@ -6,9 +6,9 @@ use Rattle.jl_progress.specs.declared.array_call.Task.TheVariants as task
 use Rattle.jl_state.proofs.Stores.{works_comes}
 use Rattle.jl_lib_array.proofs.walking.begin_filter.Goals as goal
 
-pub returns-clause-leads : goal.returns-clause-leads
-returns-clause-leads c =
-    IfOk-weaker _ _ _ (λ a leads. works_comes c.args.state.now
+pub returns-clause-refines : goal.returns-clause-refines
+returns-clause-refines c =
+    IfOk-weaker _ _ _ (λ a refines. works_comes c.args.state.now
     (record c.args.state.now { store = c.new_array.new.self }) refl new_array c.in_ok-array.array
-    (λ a. turns (task.Filter a 0) (walk_of c.args.walk) 0) _ _ c.in_ok-array.ensures leads)
-    c.go_on_walking.ensures.leads
+    (λ a. turns (task.Filter a 0) (walk_of c.args.walk) 0) _ _ c.in_ok-array.ensures refines)
+    c.go_on_walking.ensures.refines

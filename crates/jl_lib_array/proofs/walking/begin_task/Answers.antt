@@ -3,28 +3,28 @@ use Rattle.jl_progress.specs.ArrayCalls.{walk_of}
 use Rattle.jl_lib_array.proofs.Walks.{reduces, walk_is_for}
 use Rattle.jl_lib_array.proofs.walking.begin_task.Goals as goal
 
-pub returns-in-Any-clause-leads : goal.returns-in-Any-clause-leads
-returns-in-Any-clause-leads c =
-    IfOk-weaker _ _ _ (λ a leads. walk_is_for _ _ _ c.args.purpose _ (walk_of c.args.walk) c.args.args.now c.in-Any.is
-    leads) c.go_on_walking.ensures.leads
+pub returns-in-Any-clause-refines : goal.returns-in-Any-clause-refines
+returns-in-Any-clause-refines c =
+    IfOk-weaker _ _ _ (λ a refines. walk_is_for _ _ _ c.args.purpose _ (walk_of c.args.walk) c.args.args.now c.in-Any.is
+    refines) c.go_on_walking.ensures.refines
 
-pub returns-in-ForEach-clause-leads : goal.returns-in-ForEach-clause-leads
-returns-in-ForEach-clause-leads c =
-    IfOk-weaker _ _ _ (λ a leads. walk_is_for _ _ _ c.args.purpose _ (walk_of c.args.walk) c.args.args.now
-    c.in-ForEach.is leads) c.go_on_walking-in-ForEach.ensures.leads
+pub returns-in-ForEach-clause-refines : goal.returns-in-ForEach-clause-refines
+returns-in-ForEach-clause-refines c =
+    IfOk-weaker _ _ _ (λ a refines. walk_is_for _ _ _ c.args.purpose _ (walk_of c.args.walk) c.args.args.now
+    c.in-ForEach.is refines) c.go_on_walking-in-ForEach.ensures.refines
 
-pub returns-in-Map-clause-leads : goal.returns-in-Map-clause-leads
-returns-in-Map-clause-leads c =
-    IfOk-weaker _ _ _ (λ a leads. walk_is_for _ _ _ c.args.purpose _ (walk_of c.args.walk) c.args.args.now c.in-Map.is
-    leads) c.begin_map.ensures.leads
+pub returns-in-Map-clause-refines : goal.returns-in-Map-clause-refines
+returns-in-Map-clause-refines c =
+    IfOk-weaker _ _ _ (λ a refines. walk_is_for _ _ _ c.args.purpose _ (walk_of c.args.walk) c.args.args.now c.in-Map.is
+    refines) c.begin_map.ensures.refines
 
-pub returns-in-Filter-clause-leads : goal.returns-in-Filter-clause-leads
-returns-in-Filter-clause-leads c =
-    IfOk-weaker _ _ _ (λ a leads. walk_is_for _ _ _ c.args.purpose _ (walk_of c.args.walk) c.args.args.now
-    c.in-Filter.is leads) c.begin_filter.ensures.leads
+pub returns-in-Filter-clause-refines : goal.returns-in-Filter-clause-refines
+returns-in-Filter-clause-refines c =
+    IfOk-weaker _ _ _ (λ a refines. walk_is_for _ _ _ c.args.purpose _ (walk_of c.args.walk) c.args.args.now
+    c.in-Filter.is refines) c.begin_filter.ensures.refines
 
-pub returns-in_ok-so_far-in-Reduce-clause-leads : goal.returns-in_ok-so_far-in-Reduce-clause-leads
-returns-in_ok-so_far-in-Reduce-clause-leads c =
-    IfOk-weaker _ _ _ (λ a leads. reduces _ _ _ c.args.purpose _ (walk_of c.args.walk) c.args.args.now _ _
-    c.in-Reduce.is c.in_ok-so_far-in-Reduce.ensures c.first_place-at.ensures leads)
-    c.go_on_walking-in-Reduce.ensures.leads
+pub returns-in_ok-so_far-in-Reduce-clause-refines : goal.returns-in_ok-so_far-in-Reduce-clause-refines
+returns-in_ok-so_far-in-Reduce-clause-refines c =
+    IfOk-weaker _ _ _ (λ a refines. reduces _ _ _ c.args.purpose _ (walk_of c.args.walk) c.args.args.now _ _
+    c.in-Reduce.is c.in_ok-so_far-in-Reduce.ensures c.first_place-at.ensures refines)
+    c.go_on_walking-in-Reduce.ensures.refines

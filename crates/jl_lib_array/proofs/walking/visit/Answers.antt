@@ -7,16 +7,16 @@ use Rattle.jl_builtin.proofs.Waits.{element_missing, element_waits}
 use Rattle.jl_lib_array.proofs.TaskTurns.{element_passed}
 use Rattle.jl_lib_array.proofs.walking.visit.Goals as goal
 
-pub returns-then-not-there-clause-leads : goal.returns-then-not-there-clause-leads
-returns-then-not-there-clause-leads c =
-    IfOk-weaker _ _ _ (λ a leads. element_missing c.args.state.now c.args.walk.object c.args.index _
+pub returns-then-not-there-clause-refines : goal.returns-then-not-there-clause-refines
+returns-then-not-there-clause-refines c =
+    IfOk-weaker _ _ _ (λ a refines. element_missing c.args.state.now c.args.walk.object c.args.index _
     (task_with c.args.task (walk_of c.args.walk) c.args.index) _ _ c.in_ok-there.ensures c.if-not-there.true
     (element_passed _ (walk_of c.args.walk) _ _ c.args.task _ _ c.args.index c.direction_of.ensures c.in_ok-at.ensures
-    leads)) c.go_on_walking.ensures.leads
+    refines)) c.go_on_walking.ensures.refines
 
-pub returns-clause-leads : goal.returns-clause-leads
-returns-clause-leads c =
-    IfOk-weaker _ _ _ (λ a leads. element_waits _ _ (progress.ArrayCall
+pub returns-clause-refines : goal.returns-clause-refines
+returns-clause-refines c =
+    IfOk-weaker _ _ _ (λ a refines. element_waits _ _ (progress.ArrayCall
     (array_call.Element c.args.walk c.args.task c.args.index)) c.args.walk.object c.args.index _
     (task_with c.args.task (walk_of c.args.walk) c.args.index) _ _ c.in_ok-there.ensures c.if-not-there.false
-    (λ v. refl) c.in_ok-push_builtin.ensures.waits leads) c.get_index.ensures.leads
+    (λ v. refl) c.in_ok-push_builtin.ensures.waits refines) c.get_index.ensures.refines

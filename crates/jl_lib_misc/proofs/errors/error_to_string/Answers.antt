@@ -6,7 +6,8 @@ use Rattle.jl_lib_misc.proofs.errors.error_to_string.Goals as goal
 
 pub returns-in_default : goal.returns-in_default
 returns-in_default c = record {
-  leads = IfOk-weaker _ _ _ (λ a leads. no_error_object _ (call_of c.args.call.now) _ _ c.in_default.not-Obj leads)
-      c.throw_native.ensures.leads;
-  falls = search rules;
+  refines = IfOk-weaker _ _ _ (λ a refines. no_error_object _
+      (call_of c.args.call.now) _ _ c.in_default.not-Obj refines)
+      c.throw_native.ensures.refines;
+  bounded = search rules;
 }

@@ -3,7 +3,7 @@ use Rattle.jl_state.specs.Words.{call_of}
 use Rattle.jl_lib_misc.proofs.Arguments.{argument_is, test_waits}
 use Rattle.jl_lib_misc.proofs.globals.test_argument.Goals as goal
 
-pub returns-clause-leads : goal.returns-clause-leads
-returns-clause-leads c =
-    IfOk-weaker _ _ _ (λ a leads. test_waits _ _ _ (call_of c.args.call.now) c.args.test _ (argument_is
-    (call_of c.args.call.now) _ 0 _ c.items.ensures c.in_ok-first.ensures) leads) c.wait_for_number.ensures.leads
+pub returns-clause-refines : goal.returns-clause-refines
+returns-clause-refines c =
+    IfOk-weaker _ _ _ (λ a refines. test_waits _ _ _ (call_of c.args.call.now) c.args.test _ (argument_is
+    (call_of c.args.call.now) _ 0 _ c.items.ensures c.in_ok-first.ensures) refines) c.wait_for_number.ensures.refines

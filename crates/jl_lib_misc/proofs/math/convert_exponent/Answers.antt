@@ -6,8 +6,8 @@ use Rattle.jl_progress.specs.declared.progress.Progress.TheVariants as progress
 use Rattle.jl_builtin.proofs.Conversions.{as_number}
 use Rattle.jl_lib_misc.proofs.math.convert_exponent.Goals as goal
 
-pub returns-clause-leads : goal.returns-clause-leads
-returns-clause-leads c =
-    IfOk-weaker _ _ _ (λ a leads. as_number _ _ _ c.args.exponent
-    (progress_after (progress.Number (number.Exponent c.args.base))) _ (λ p. refl) leads)
-    c.wait_for_number.ensures.leads
+pub returns-clause-refines : goal.returns-clause-refines
+returns-clause-refines c =
+    IfOk-weaker _ _ _ (λ a refines. as_number _ _ _ c.args.exponent
+    (progress_after (progress.Number (number.Exponent c.args.base))) _ (λ p. refl) refines)
+    c.wait_for_number.ensures.refines

@@ -8,8 +8,9 @@ use Rattle.jl_state.specs.Words.{call_of}
 use Rattle.jl_builtin.proofs.Receivers.{refuses}
 use Rattle.jl_lib_misc.proofs.numbers.number_to_string.Goals as goal
 
-pub returns-in-None-clause-leads : goal.returns-in-None-clause-leads
-returns-in-None-clause-leads c =
-    IfOk-weaker _ _ _ (λ a leads. refuses c.args.state.now (λ store. number_of_receiver store.heap c.args.call.now.this)
+pub returns-in-None-clause-refines : goal.returns-in-None-clause-refines
+returns-in-None-clause-refines c =
+    IfOk-weaker _ _ _ (λ a refines. refuses c.args.state.now
+    (λ store. number_of_receiver store.heap c.args.call.now.this)
     _ (λ n. unless_undefined (pos 10) to_integer (argument (call_of c.args.call.now) 0) >>= λ z. string_in_radix n z) _
-    _ c.number_of_receiver.ensures c.in-None.is leads) c.throw_native.ensures.leads
+    _ c.number_of_receiver.ensures c.in-None.is refines) c.throw_native.ensures.refines

@@ -30,11 +30,11 @@ unfolding length_name
 returns c =
     let heap = c.args.store.now.heap in
     record {
-      leads = (comes_new _ _ _ c.in_ok-id.id (λ id. add_property id length_name
+      refines = (comes_new _ _ _ c.in_ok-id.id (λ id. add_property id length_name
           (Plain (whole (bound_length heap c.args.target c.args.args)) false false false)
           >>= λ _. add_poison id >>= λ _. give id) c.in_ok-id.ensures.next c.in_ok-id.ensures.made
           (comes_added c.in_ok-id.id c.in_ok-name.ensures
           (c.constant_property.ensures ∙ ap (λ v. Plain v false false false) (c.in_ok-length.ensures
           ∙ ap whole (c.in_ok-bound_length.ensures ∙ ap (λ l. bound_length heap c.args.target l) c.items.ensures)))
-          c.in_ok-add_property.ensures.made (comes_after c.in_ok-add_poison.ensures.made comes_to))).leads;
+          c.in_ok-add_property.ensures.made (comes_after c.in_ok-add_poison.ensures.made comes_to))).refines;
     }

@@ -8,10 +8,10 @@ use Rattle.jl_meaning.specs.builtins.Object.{define_all}
 use Rattle.jl_state.proofs.Stores.{works_comes}
 use Rattle.jl_lib_object.proofs.defining.create_with.Goals as goal
 
-pub returns-clause-leads : goal.returns-clause-leads
-returns-clause-leads c =
-    IfOk-weaker _ _ _ (λ a leads. works_comes c.args.state.now
+pub returns-clause-refines : goal.returns-clause-refines
+returns-clause-refines c =
+    IfOk-weaker _ _ _ (λ a refines. works_comes c.args.state.now
     (record c.args.state.now { store = c.new_object.new.store }) refl
     (new_object class.Object c.args.proto inner.Nothing) c.in_ok-object.object (λ id. unless_undefined tt
-    (define_all id) c.args.properties.now >>= λ _. give_object id) _ _ c.in_ok-object.ensures leads)
-    c.define_given.ensures.leads
+    (define_all id) c.args.properties.now >>= λ _. give_object id) _ _ c.in_ok-object.ensures refines)
+    c.define_given.ensures.refines

@@ -4,18 +4,18 @@ use Rattle.jl_lib_object.proofs.Definitions.{defined_all, defined_next}
 use Rattle.jl_lib_object.proofs.Ranks.{falls_next}
 use Rattle.jl_lib_object.proofs.defining.define_from.Goals as goal
 
-pub returns-in-None-clause-leads : goal.returns-in-None-clause-leads
-returns-in-None-clause-leads c =
+pub returns-in-None-clause-refines : goal.returns-in-None-clause-refines
+returns-in-None-clause-refines c =
     defined_all _ _ _ (none_from c.args.from _ c.args.changes _ c.items.ensures c.in_ok-change_from.ensures
     c.in-None.is)
 
-pub returns-clause-leads : goal.returns-clause-leads
-returns-clause-leads c =
-    IfOk-weaker _ _ _ (λ a leads. defined_next c.args.state.now c.args.object _ _ c.args.changes c.in-Some.next _ _
-    (some_from c.args.from _ _ c.args.changes _ _ c.items.ensures c.in_ok-change_from.ensures c.in-Some.is) leads)
-    c.define_one.ensures.leads
+pub returns-clause-refines : goal.returns-clause-refines
+returns-clause-refines c =
+    IfOk-weaker _ _ _ (λ a refines. defined_next c.args.state.now c.args.object _ _ c.args.changes c.in-Some.next _ _
+    (some_from c.args.from _ _ c.args.changes _ _ c.items.ensures c.in_ok-change_from.ensures c.in-Some.is) refines)
+    c.define_one.ensures.refines
 
-pub returns-clause-falls : goal.returns-clause-falls
-returns-clause-falls c =
-    IfOk-weaker _ _ _ (λ a falls. falls_next _ _ _ _ _ _ (some_from c.args.from _ _ c.args.changes _ _ c.items.ensures
-    c.in_ok-change_from.ensures c.in-Some.is) falls) c.define_one.ensures.falls
+pub returns-clause-bounded : goal.returns-clause-bounded
+returns-clause-bounded c =
+    IfOk-weaker _ _ _ (λ a bounded. falls_next _ _ _ _ _ _ (some_from c.args.from _ _ c.args.changes _ _ c.items.ensures
+    c.in_ok-change_from.ensures c.in-Some.is) bounded) c.define_one.ensures.bounded

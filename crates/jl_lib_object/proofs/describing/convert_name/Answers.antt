@@ -4,7 +4,7 @@ use Rattle.jl_operator.proofs.Operands.{text_waits}
 use Rattle.jl_lib_object.specs.inner.Parts.{describe_own}
 use Rattle.jl_lib_object.proofs.describing.convert_name.Goals as goal
 
-pub returns-clause-leads : goal.returns-clause-leads
-returns-clause-leads c =
-    IfOk-weaker _ _ _ (λ a leads. text_waits _ _ _ _ (describe_own c.args.object) c.args.name _ (λ p. refl)
-    c.in_ok-wait_object.ensures.waits leads) c.to_primitive.ensures.leads
+pub returns-clause-refines : goal.returns-clause-refines
+returns-clause-refines c =
+    IfOk-weaker _ _ _ (λ a refines. text_waits _ _ _ _ (describe_own c.args.object) c.args.name _ (λ p. refl)
+    c.in_ok-wait_object.ensures.waits refines) c.to_primitive.ensures.refines

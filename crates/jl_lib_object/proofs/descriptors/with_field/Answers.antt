@@ -1,6 +1,6 @@
 use Rattle.std.proofs.Common.{subst, sym}
 use Rattle.jl_store.specs.Answers.{ends_with}
-use Rattle.jl_store.specs.Comes.{Comes}
+use Rattle.jl_store.specs.BigStep.{BigStep}
 use Rattle.jl_lib_object.specs.inner.Fields.{with_field}
 use Rattle.jl_lib_object.proofs.Fields.{configurable_given, enumerable_given, value_got, writable_given}
 use Rattle.jl_lib_object.proofs.descriptors.with_field.Goals as goal
@@ -19,10 +19,10 @@ returns-in-Writable c = writable_given _ _ _ _ _ c.in-Writable.is c.to_boolean-i
 
 pub returns-in_ok-answer-in-Get : goal.returns-in_ok-answer-in-Get
 returns-in_ok-answer-in-Get c =
-    subst (λ w. Comes (with_field w c.args.v c.args.change) c.args.store.now c.with_getter.new.store
+    subst (λ w. BigStep (with_field w c.args.v c.args.change) c.args.store.now c.with_getter.new.store
     (ends_with c.in_ok-answer-in-Get.answer)) (sym c.in-Get.is) c.in_ok-answer-in-Get.ensures
 
 pub returns-in_ok-answer-in-Set : goal.returns-in_ok-answer-in-Set
 returns-in_ok-answer-in-Set c =
-    subst (λ w. Comes (with_field w c.args.v c.args.change) c.args.store.now c.with_setter.new.store
+    subst (λ w. BigStep (with_field w c.args.v c.args.change) c.args.store.now c.with_setter.new.store
     (ends_with c.in_ok-answer-in-Set.answer)) (sym c.in-Set.is) c.in_ok-answer-in-Set.ensures

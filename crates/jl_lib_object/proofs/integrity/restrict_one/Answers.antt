@@ -7,9 +7,9 @@ use Rattle.jl_lib_object.specs.inner.Parts.{restrict_and_give}
 use Rattle.jl_lib_object.proofs.Definitions.{uncounted}
 use Rattle.jl_lib_object.proofs.integrity.restrict_one.Goals as goal
 
-pub returns-clause-leads : goal.returns-clause-leads
-returns-clause-leads c =
-    IfOk-weaker _ _ _ (λ a leads. (c.if-not-spend.ensures.took refl).works _ _ _ (uncounted _ (redefine
+pub returns-clause-refines : goal.returns-clause-refines
+returns-clause-refines c =
+    IfOk-weaker _ _ _ (λ a refines. (c.if-not-spend.ensures.took refl).works _ _ _ (uncounted _ (redefine
     (restricted_property c.args.integrity) c.args.object c.args.name.now) value.Undefined (restrict_and_give
     c.args.integrity c.args.object (drop c.args.from c.args.names)) _ _
-    (c.in_ok-wait_object.ensures.waits.works _ _ _ leads))) c.redefine.ensures.leads
+    (c.in_ok-wait_object.ensures.waits.works _ _ _ refines))) c.redefine.ensures.refines

@@ -5,14 +5,14 @@ use Rattle.jl_builtin.proofs.FoundItems.{none_from, some_from}
 use Rattle.jl_lib_object.proofs.Restrictions.{tested_all, tests_next}
 use Rattle.jl_lib_object.proofs.integrity.test_from.Goals as goal
 
-pub returns-in-None-clause-leads : goal.returns-in-None-clause-leads
-returns-in-None-clause-leads c =
+pub returns-in-None-clause-refines : goal.returns-in-None-clause-refines
+returns-in-None-clause-refines c =
     tested_all _ _ _ _ _ _ (none_from c.args.from _ c.args.names _ c.items.ensures c.in_ok-name_from.ensures
     c.in-None.is)
     (c.both-closed.ensures ∙ ap (λ e. c.args.holds && not e) c.is_extensible.ensures)
 
-pub returns-clause-leads : goal.returns-clause-leads
-returns-clause-leads c =
-    IfOk-weaker _ _ _ (λ a leads. tests_next c.args.state.now c.args.integrity c.args.object c.args.holds _ _ _ _ _
-    (some_from c.args.from _ _ c.args.names _ _ c.items.ensures c.in_ok-name_from.ensures c.in-Some.is) leads)
-    c.test_one.ensures.leads
+pub returns-clause-refines : goal.returns-clause-refines
+returns-clause-refines c =
+    IfOk-weaker _ _ _ (λ a refines. tests_next c.args.state.now c.args.integrity c.args.object c.args.holds _ _ _ _ _
+    (some_from c.args.from _ _ c.args.names _ _ c.items.ensures c.in_ok-name_from.ensures c.in-Some.is) refines)
+    c.test_one.ensures.refines

@@ -4,7 +4,7 @@ use Rattle.jl_meaning.specs.builtins.Object.{array_of_names}
 use Rattle.jl_lib_object.proofs.Ends.{works_of}
 use Rattle.jl_lib_object.proofs.own_names.list_keys.Goals as goal
 
-pub returns-clause-leads : goal.returns-clause-leads
-returns-clause-leads c =
-    IfOk-weaker _ _ _ (λ a leads. works_of _ array_of_names _ _ _ _ (c.items.ensures ∙ c.in_ok-names.ensures) leads)
-    c.array_of_names.ensures.leads
+pub returns-clause-refines : goal.returns-clause-refines
+returns-clause-refines c =
+    IfOk-weaker _ _ _ (λ a refines. works_of _ array_of_names _ _ _ _ (c.items.ensures ∙ c.in_ok-names.ensures) refines)
+    c.array_of_names.ensures.refines

@@ -2,66 +2,66 @@ use Rattle.std.proofs.Common.{arith}
 use Rattle.jl_lib_object.proofs.Resumed.{falls_resumed, resumes}
 use Rattle.jl_lib_object.proofs.resuming.resume_object.Goals as goal
 
-pub returns-in-DescribedName-clause-leads : goal.returns-in-DescribedName-clause-leads
-returns-in-DescribedName-clause-leads c =
-    resumes _ _ _ _ _ c.args.v c.in-DescribedName.is c.step_described_name.ensures.leads
+pub returns-in-DescribedName-clause-refines : goal.returns-in-DescribedName-clause-refines
+returns-in-DescribedName-clause-refines c =
+    resumes _ _ _ _ _ c.args.v c.in-DescribedName.is c.step_described_name.ensures.refines
 
-pub returns-in-DescribedName-clause-falls : goal.returns-in-DescribedName-clause-falls
-returns-in-DescribedName-clause-falls c =
-    falls_resumed _ _ _ _ _ _ c.in-DescribedName.is c.step_described_name.ensures.falls (omega arith)
+pub returns-in-DescribedName-clause-bounded : goal.returns-in-DescribedName-clause-bounded
+returns-in-DescribedName-clause-bounded c =
+    falls_resumed _ _ _ _ _ _ c.in-DescribedName.is c.step_described_name.ensures.bounded (omega arith)
 
-pub returns-in-DefinedName-clause-leads : goal.returns-in-DefinedName-clause-leads
-returns-in-DefinedName-clause-leads c =
-    resumes _ _ _ _ _ c.args.v c.in-DefinedName.is c.step_defined_name.ensures.leads
+pub returns-in-DefinedName-clause-refines : goal.returns-in-DefinedName-clause-refines
+returns-in-DefinedName-clause-refines c =
+    resumes _ _ _ _ _ c.args.v c.in-DefinedName.is c.step_defined_name.ensures.refines
 
-pub returns-in-DefinedName-clause-falls : goal.returns-in-DefinedName-clause-falls
-returns-in-DefinedName-clause-falls c =
-    falls_resumed _ _ _ _ _ _ c.in-DefinedName.is c.step_defined_name.ensures.falls (omega arith)
+pub returns-in-DefinedName-clause-bounded : goal.returns-in-DefinedName-clause-bounded
+returns-in-DefinedName-clause-bounded c =
+    falls_resumed _ _ _ _ _ _ c.in-DefinedName.is c.step_defined_name.ensures.bounded (omega arith)
 
-pub returns-in-Field-clause-leads : goal.returns-in-Field-clause-leads
-returns-in-Field-clause-leads c =
-    resumes _ _ _ _ _ c.args.v c.in-Field.is c.step_field.ensures.leads
+pub returns-in-Field-clause-refines : goal.returns-in-Field-clause-refines
+returns-in-Field-clause-refines c =
+    resumes _ _ _ _ _ c.args.v c.in-Field.is c.step_field.ensures.refines
 
-pub returns-in-Field-clause-falls : goal.returns-in-Field-clause-falls
-returns-in-Field-clause-falls c =
-    falls_resumed _ _ _ _ _ _ c.in-Field.is c.step_field.ensures.falls (omega arith)
+pub returns-in-Field-clause-bounded : goal.returns-in-Field-clause-bounded
+returns-in-Field-clause-bounded c =
+    falls_resumed _ _ _ _ _ _ c.in-Field.is c.step_field.ensures.bounded (omega arith)
 
-pub returns-in-Descriptor-clause-leads : goal.returns-in-Descriptor-clause-leads
-returns-in-Descriptor-clause-leads c =
-    resumes _ _ _ _ _ c.args.v c.in-Descriptor.is c.step_descriptor.ensures.leads
+pub returns-in-Descriptor-clause-refines : goal.returns-in-Descriptor-clause-refines
+returns-in-Descriptor-clause-refines c =
+    resumes _ _ _ _ _ c.args.v c.in-Descriptor.is c.step_descriptor.ensures.refines
 
-pub returns-in-Descriptor-clause-falls : goal.returns-in-Descriptor-clause-falls
-returns-in-Descriptor-clause-falls c =
-    falls_resumed _ _ _ _ _ _ c.in-Descriptor.is c.step_descriptor.ensures.falls (omega arith)
+pub returns-in-Descriptor-clause-bounded : goal.returns-in-Descriptor-clause-bounded
+returns-in-Descriptor-clause-bounded c =
+    falls_resumed _ _ _ _ _ _ c.in-Descriptor.is c.step_descriptor.ensures.bounded (omega arith)
 
-pub returns-in-Define-clause-leads : goal.returns-in-Define-clause-leads
-returns-in-Define-clause-leads c =
-    resumes _ _ _ _ _ c.args.v c.in-Define.is c.define_from.ensures.leads
+pub returns-in-Define-clause-refines : goal.returns-in-Define-clause-refines
+returns-in-Define-clause-refines c =
+    resumes _ _ _ _ _ c.args.v c.in-Define.is c.define_from.ensures.refines
 
-pub returns-in-Define-clause-falls : goal.returns-in-Define-clause-falls
-returns-in-Define-clause-falls c =
-    falls_resumed _ _ _ _ _ _ c.in-Define.is c.define_from.ensures.falls (omega arith)
+pub returns-in-Define-clause-bounded : goal.returns-in-Define-clause-bounded
+returns-in-Define-clause-bounded c =
+    falls_resumed _ _ _ _ _ _ c.in-Define.is c.define_from.ensures.bounded (omega arith)
 
-pub returns-in-Restrict-clause-leads : goal.returns-in-Restrict-clause-leads
-returns-in-Restrict-clause-leads c =
-    resumes _ _ _ _ _ c.args.v c.in-Restrict.is c.restrict_from.ensures.leads
+pub returns-in-Restrict-clause-refines : goal.returns-in-Restrict-clause-refines
+returns-in-Restrict-clause-refines c =
+    resumes _ _ _ _ _ c.args.v c.in-Restrict.is c.restrict_from.ensures.refines
 
-pub returns-in-Restrict-clause-falls : goal.returns-in-Restrict-clause-falls
-returns-in-Restrict-clause-falls c =
-    falls_resumed _ _ _ _ _ _ c.in-Restrict.is c.restrict_from.ensures.falls (omega arith)
+pub returns-in-Restrict-clause-bounded : goal.returns-in-Restrict-clause-bounded
+returns-in-Restrict-clause-bounded c =
+    falls_resumed _ _ _ _ _ _ c.in-Restrict.is c.restrict_from.ensures.bounded (omega arith)
 
-pub returns-in-Test-clause-leads : goal.returns-in-Test-clause-leads
-returns-in-Test-clause-leads c =
-    resumes _ _ _ _ _ c.args.v c.in-Test.is c.test_from.ensures.leads
+pub returns-in-Test-clause-refines : goal.returns-in-Test-clause-refines
+returns-in-Test-clause-refines c =
+    resumes _ _ _ _ _ c.args.v c.in-Test.is c.test_from.ensures.refines
 
-pub returns-in-Test-clause-falls : goal.returns-in-Test-clause-falls
-returns-in-Test-clause-falls c =
-    falls_resumed _ _ _ _ _ _ c.in-Test.is c.test_from.ensures.falls (omega arith)
+pub returns-in-Test-clause-bounded : goal.returns-in-Test-clause-bounded
+returns-in-Test-clause-bounded c =
+    falls_resumed _ _ _ _ _ _ c.in-Test.is c.test_from.ensures.bounded (omega arith)
 
-pub returns-clause-leads : goal.returns-clause-leads
-returns-clause-leads c =
-    resumes _ _ _ _ _ c.args.v c.in-OwnName.is c.step_own_name.ensures.leads
+pub returns-clause-refines : goal.returns-clause-refines
+returns-clause-refines c =
+    resumes _ _ _ _ _ c.args.v c.in-OwnName.is c.step_own_name.ensures.refines
 
-pub returns-clause-falls : goal.returns-clause-falls
-returns-clause-falls c =
-    falls_resumed _ _ _ _ _ _ c.in-OwnName.is c.step_own_name.ensures.falls (omega arith)
+pub returns-clause-bounded : goal.returns-clause-bounded
+returns-clause-bounded c =
+    falls_resumed _ _ _ _ _ _ c.in-OwnName.is c.step_own_name.ensures.bounded (omega arith)

@@ -5,9 +5,9 @@ use Rattle.jl_builtin.proofs.FoundItems.{some_from}
 use Rattle.jl_lib_text.proofs.Objects.{constructs_with}
 use Rattle.jl_lib_text.proofs.constructing.string_constructor.Goals as goal
 
-pub returns-in-Some-clause-leads : goal.returns-in-Some-clause-leads
-returns-in-Some-clause-leads c =
-    IfOk-weaker _ _ _ (λ a leads. constructs_with c.args.state.now (call_of c.args.call.now) c.items.result.now
+pub returns-in-Some-clause-refines : goal.returns-in-Some-clause-refines
+returns-in-Some-clause-refines c =
+    IfOk-weaker _ _ _ (λ a refines. constructs_with c.args.state.now (call_of c.args.call.now) c.items.result.now
     c.args.call.now.by_new _ _ c.items.ensures refl c.in-Some.v _ (some_from 0 _ c.items.result.now c.items.result.now
-    c.in-Some.v c.in_ok-value_from.field-0 refl c.in_ok-value_from.ensures.found c.in-Some.is) leads)
-    c.wait_for_string.ensures.leads
+    c.in-Some.v c.in_ok-value_from.field-0 refl c.in_ok-value_from.ensures.found c.in-Some.is) refines)
+    c.wait_for_string.ensures.refines

@@ -6,9 +6,9 @@ use Rattle.jl_progress.specs.declared.string.StringProgress.TheVariants as progr
 use Rattle.jl_builtin.proofs.Conversions.{as_number}
 use Rattle.jl_lib_text.proofs.places.convert_place.Goals as goal
 
-pub returns-clause-leads : goal.returns-clause-leads
-returns-clause-leads c =
-    IfOk-weaker _ _ _ (λ a leads. as_number _ _ _ c.args.position
+pub returns-clause-refines : goal.returns-clause-refines
+returns-clause-refines c =
+    IfOk-weaker _ _ _ (λ a refines. as_number _ _ _ c.args.position
     (string_after (progress.Place c.args.search c.args.units c.args.part))
-    (λ n. give (place_of_part c.args.search c.args.units c.args.part n)) (λ p. refl) leads)
-    c.wait_for_number.ensures.leads
+    (λ n. give (place_of_part c.args.search c.args.units c.args.part n)) (λ p. refl) refines)
+    c.wait_for_number.ensures.refines

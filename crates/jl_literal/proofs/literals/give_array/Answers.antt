@@ -4,6 +4,6 @@ use Rattle.jl_literal.proofs.literals.give_array.Goals as goal
 
 pub returns-in_default : goal.returns-in_default
 returns-in_default c = record {
-  leads = λ s same. no_array_given s _ c.args.object _ c.class_of.ensures c.in_default.not-Array same;
+  refines = λ s same. no_array_given s _ c.args.object _ c.class_of.ensures c.in_default.not-Array same;
   low = search rules;
 }

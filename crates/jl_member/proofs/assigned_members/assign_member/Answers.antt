@@ -2,18 +2,18 @@ use Rattle.std.proofs.Common.{refl}
 use Rattle.std.proofs.lemmas.Result.{IfOk-weaker}
 use Rattle.jl_state.specs.ValueFrames.{key_after}
 use Rattle.jl_state.specs.Words.{table_of}
-use Rattle.jl_state.specs.declared.value_frame.KeyFor.TheVariants as key_for
+use Rattle.jl_state.specs.declared.value_frame.MemberUse.TheVariants as key_for
 use Rattle.jl_member.proofs.Keys.{assigns_member, named_at_once}
 use Rattle.jl_member.proofs.assigned_members.assign_member.Goals as goal
 
-pub returns-in-Some-clause-leads : goal.returns-in-Some-clause-leads
-returns-in-Some-clause-leads c =
-    IfOk-weaker _ _ _ (λ a leads. assigns_member c.args.state.now c.args.base c.args.base c.args.key c.args.op
+pub returns-in-Some-clause-refines : goal.returns-in-Some-clause-refines
+returns-in-Some-clause-refines c =
+    IfOk-weaker _ _ _ (λ a refines. assigns_member c.args.state.now c.args.base c.args.base c.args.key c.args.op
     c.args.value c.args.here _ _ refl (named_at_once c.args.state.now c.args.base c.args.key c.in-Some.name (key_after
     (table_of c.args.state.now.functions) c.args.state.now.calls (key_for.Assign c.args.base c.args.op c.args.value
-    c.args.here)) _ _ (rw c.in-Some.is at c.in_ok-found.ensures) leads)) c.assign_by_key.ensures.leads
+    c.args.here)) _ _ (rw c.in-Some.is at c.in_ok-found.ensures) refines)) c.assign_by_key.ensures.refines
 
-pub returns-clause-leads : goal.returns-clause-leads
-returns-clause-leads c =
-    IfOk-weaker _ _ _ (λ a leads. assigns_member c.args.state.now c.args.base _ c.args.key c.args.op c.args.value
-    c.args.here _ _ c.in_ok-share-in-None.ensures leads) c.member_name.ensures.leads
+pub returns-clause-refines : goal.returns-clause-refines
+returns-clause-refines c =
+    IfOk-weaker _ _ _ (λ a refines. assigns_member c.args.state.now c.args.base _ c.args.key c.args.op c.args.value
+    c.args.here _ _ c.in_ok-share-in-None.ensures refines) c.member_name.ensures.refines

@@ -4,19 +4,20 @@ use Rattle.jl_state.proofs.Leaves.{falls_supplied, supplied_value}
 use Rattle.jl_member.proofs.Operands.{evaluates_for_name}
 use Rattle.jl_member.proofs.assigned_names.step_compute_name.Goals as goal
 
-pub returns-in-Some-clause-leads : goal.returns-in-Some-clause-leads
-returns-in-Some-clause-leads c =
-    IfOk-weaker _ _ _ (λ a leads. evaluates_for_name c.args.state.now c.args.value c.deref.result.now c.args.here
+pub returns-in-Some-clause-refines : goal.returns-in-Some-clause-refines
+returns-in-Some-clause-refines c =
+    IfOk-weaker _ _ _ (λ a refines. evaluates_for_name c.args.state.now c.args.value c.deref.result.now c.args.here
     c.args.v _ _ c.args.name c.args.reference c.args.op c.deref.ensures (supplied_value c.args.state.now _
     c.take_step.ensures.left _ _ ((rw c.in-Some.is at c.in_ok-found.ensures.supplies) _ c.take_step.ensures.took
     c.take_step.ensures.left) (waiting.ComputeNameOperand c.args.name c.args.reference c.args.op c.args.v
-    c.args.here.strict) _ _ leads)) c.step_compute_name_operand.ensures.leads
+    c.args.here.strict) _ _ refines)) c.step_compute_name_operand.ensures.refines
 
-pub returns-in-Some-clause-falls : goal.returns-in-Some-clause-falls
-returns-in-Some-clause-falls c =
-    falls_supplied 104 100 c.args.state.now _ _ _ c.take_step.ensures.less c.step_compute_name_operand.ensures.falls
+pub returns-in-Some-clause-bounded : goal.returns-in-Some-clause-bounded
+returns-in-Some-clause-bounded c =
+    falls_supplied 104 100 c.args.state.now _ _ _ c.take_step.ensures.less c.step_compute_name_operand.ensures.bounded
 
-pub returns-in-None-clause-leads : goal.returns-in-None-clause-leads
-returns-in-None-clause-leads c =
-    IfOk-weaker _ _ _ (λ a leads. evaluates_for_name c.args.state.now c.args.value c.deref-in-None.result.now c.args.here
-    c.args.v _ _ c.args.name c.args.reference c.args.op c.deref-in-None.ensures leads) c.evaluate.ensures.leads
+pub returns-in-None-clause-refines : goal.returns-in-None-clause-refines
+returns-in-None-clause-refines c =
+    IfOk-weaker _ _ _ (λ a refines. evaluates_for_name c.args.state.now c.args.value c.deref-in-None.result.now
+    c.args.here
+    c.args.v _ _ c.args.name c.args.reference c.args.op c.deref-in-None.ensures refines) c.evaluate.ensures.refines

@@ -3,14 +3,14 @@ use Rattle.std.proofs.lemmas.Result.{IfOk-weaker}
 use Rattle.jl_member.proofs.MemberUpdates.{converts_member, converts_number}
 use Rattle.jl_member.proofs.updated_members.step_update_member.Goals as goal
 
-pub returns-in-Num-clause-leads : goal.returns-in-Num-clause-leads
-returns-in-Num-clause-leads c =
-    IfOk-weaker _ _ _ (λ a leads. converts_number c.args.state.now c.args.noted c.args.base c.args.name c.args.up
-    c.args.prefix c.args.strict _ _ c.args.v _ a c.in-Num.is refl leads)
-    c.step_update_member_primitive.ensures.leads
+pub returns-in-Num-clause-refines : goal.returns-in-Num-clause-refines
+returns-in-Num-clause-refines c =
+    IfOk-weaker _ _ _ (λ a refines. converts_number c.args.state.now c.args.noted c.args.base c.args.name c.args.up
+    c.args.prefix c.args.strict _ _ c.args.v _ a c.in-Num.is refl refines)
+    c.step_update_member_primitive.ensures.refines
 
-pub returns-clause-leads : goal.returns-clause-leads
-returns-clause-leads c =
-    IfOk-weaker _ _ _ (λ a leads. converts_member c.args.state.now c.args.noted c.args.base c.args.name c.args.up
-    c.args.prefix c.args.strict _ _ _ c.args.v _ c.in_ok-held.ensures c.in_ok-push_value.ensures.waits leads)
-    c.to_primitive.ensures.leads
+pub returns-clause-refines : goal.returns-clause-refines
+returns-clause-refines c =
+    IfOk-weaker _ _ _ (λ a refines. converts_member c.args.state.now c.args.noted c.args.base c.args.name c.args.up
+    c.args.prefix c.args.strict _ _ _ c.args.v _ c.in_ok-held.ensures c.in_ok-push_value.ensures.waits refines)
+    c.to_primitive.ensures.refines

@@ -6,8 +6,8 @@ use Rattle.jl_meaning.specs.Relations.{give_truth}
 use Rattle.jl_operator.proofs.Operands.{text_waits}
 use Rattle.jl_operator.proofs.instances.convert_name.Goals as goal
 
-pub returns-clause-leads : goal.returns-clause-leads
-returns-clause-leads c =
-    IfOk-weaker _ _ _ (λ a leads. text_waits c.args.state.now _ _ _
+pub returns-clause-refines : goal.returns-clause-refines
+returns-clause-refines c =
+    IfOk-weaker _ _ _ (λ a refines. text_waits c.args.state.now _ _ _
     (λ x. look >>= λ store. give_truth (has_property store c.args.object.0 x)) c.args.name _ (λ p. refl)
-    c.in_ok-push_algorithm.ensures.waits leads) c.to_primitive.ensures.leads
+    c.in_ok-push_algorithm.ensures.waits refines) c.to_primitive.ensures.refines

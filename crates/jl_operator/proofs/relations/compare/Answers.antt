@@ -5,8 +5,8 @@ use Rattle.jl_state.specs.declared.algorithm_frame.AlgorithmFrame.TheVariants as
 use Rattle.jl_operator.proofs.Operands.{at_once}
 use Rattle.jl_operator.proofs.relations.compare.Goals as goal
 
-pub returns-else-is_object-clause-leads : goal.returns-else-is_object-clause-leads
-returns-else-is_object-clause-leads c =
-    IfOk-weaker _ _ _ (λ a leads. at_once c.args.state.now _ number_hint c.args.a
-    (algorithm_after (algorithm.LeftCompared c.args.op c.args.b)) a c.if-is_object.ensures leads)
-    c.step_left_compared.ensures.leads
+pub returns-else-is_object-clause-refines : goal.returns-else-is_object-clause-refines
+returns-else-is_object-clause-refines c =
+    IfOk-weaker _ _ _ (λ a refines. at_once c.args.state.now _ number_hint c.args.a
+    (algorithm_after (algorithm.LeftCompared c.args.op c.args.b)) a c.if-is_object.ensures refines)
+    c.step_left_compared.ensures.refines

@@ -4,7 +4,7 @@ use Rattle.jl_state.specs.AlgorithmFrames.{compare}
 use Rattle.jl_operator.proofs.Operands.{at_once}
 use Rattle.jl_operator.proofs.relations.step_left_compared.Goals as goal
 
-pub returns-else-is_object-clause-leads : goal.returns-else-is_object-clause-leads
-returns-else-is_object-clause-leads c =
-    IfOk-weaker _ _ _ (λ a leads. at_once c.args.state.now _ number_hint c.args.right (compare c.args.op c.args.v) a
-    c.if-is_object.ensures leads) c.step_right_compared.ensures.leads
+pub returns-else-is_object-clause-refines : goal.returns-else-is_object-clause-refines
+returns-else-is_object-clause-refines c =
+    IfOk-weaker _ _ _ (λ a refines. at_once c.args.state.now _ number_hint c.args.right (compare c.args.op c.args.v) a
+    c.if-is_object.ensures refines) c.step_right_compared.ensures.refines

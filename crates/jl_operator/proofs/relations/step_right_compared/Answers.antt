@@ -1,4 +1,4 @@
 use Rattle.jl_operator.proofs.relations.step_right_compared.Goals as goal
 
-pub returns-clause-leads : goal.returns-clause-leads
-returns-clause-leads c = c.give_relation.ensures.leads c.args.state.now
+pub returns-clause-refines : goal.returns-clause-refines
+returns-clause-refines c = c.give_relation.ensures.refines c.args.state.now

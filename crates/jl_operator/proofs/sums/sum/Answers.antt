@@ -5,8 +5,8 @@ use Rattle.jl_meaning.specs.Parts.{◌>>=◌}
 use Rattle.jl_operator.proofs.Operands.{at_once}
 use Rattle.jl_operator.proofs.sums.sum.Goals as goal
 
-pub returns-else-is_object-clause-leads : goal.returns-else-is_object-clause-leads
-returns-else-is_object-clause-leads c =
-    IfOk-weaker _ _ _ (λ a leads. at_once c.args.state.now _ no_hint c.args.a
-    (λ x. to_primitive no_hint c.args.b >>= λ y. sum_of_primitives x y) a c.if-is_object.ensures leads)
-    c.step_left_summand.ensures.leads
+pub returns-else-is_object-clause-refines : goal.returns-else-is_object-clause-refines
+returns-else-is_object-clause-refines c =
+    IfOk-weaker _ _ _ (λ a refines. at_once c.args.state.now _ no_hint c.args.a
+    (λ x. to_primitive no_hint c.args.b >>= λ y. sum_of_primitives x y) a c.if-is_object.ensures refines)
+    c.step_left_summand.ensures.refines

@@ -2,7 +2,7 @@ use Rattle.std.proofs.Common.{subst, sym}
 use Rattle.std.proofs.lemmas.Result.{IfOk-weaker}
 use Rattle.jl_meaning.specs.DeclarationBinding.{prepare_global}
 use Rattle.jl_meaning.specs.Properties.{get_property}
-use Rattle.jl_store.specs.Comes.{Comes}
+use Rattle.jl_store.specs.BigStep.{BigStep}
 use Rattle.jl_realm.proofs.Faults.{prepare_without_fault, prepared_no_accessor}
 use Rattle.jl_realm.proofs.GlobalSteps.{bound, bound_thrown}
 use Rattle.jl_realm.proofs.Ordinary.{global_stays}
@@ -21,7 +21,7 @@ put_global-requires-clause-no_accessor c =
     let s = c.args.store.now in
     let x = c.args.name.now in
     prepared_no_accessor x c.requires
-    (subst (λ e. Comes (prepare_global x (get_property s 1 x)) s c.prepare_global.new.self e) (sym c.in-Gives.ensures)
+    (subst (λ e. BigStep (prepare_global x (get_property s 1 x)) s c.prepare_global.new.self e) (sym c.in-Gives.ensures)
     c.in_ok-end.ensures)
 
 pub returns-in-Gives : goal.returns-in-Gives
@@ -29,7 +29,7 @@ returns-in-Gives c =
     let s = c.args.store.now in
     let x = c.args.name.now in
     IfOk-weaker _ _ _ (λ a is. bound c.args.strict x c.args.f
-    (subst (λ e. Comes (prepare_global x (get_property s 1 x)) s c.prepare_global.new.self e) (sym c.in-Gives.ensures)
+    (subst (λ e. BigStep (prepare_global x (get_property s 1 x)) s c.prepare_global.new.self e) (sym c.in-Gives.ensures)
     c.in_ok-end.ensures) is) c.put_global.ensures
 
 pub returns-in-Throws : goal.returns-in-Throws
@@ -37,5 +37,6 @@ returns-in-Throws c =
     let s = c.args.store.now in
     let x = c.args.name.now in
     bound_thrown c.args.strict x c.args.f
-    (subst (λ e. Comes (prepare_global x (get_property s 1 x)) s c.prepare_global.new.self e) (sym c.in-Throws.ensures)
+    (subst (λ e. BigStep (prepare_global x (get_property s 1 x)) s c.prepare_global.new.self e)
+    (sym c.in-Throws.ensures)
     c.in_ok-end.ensures)

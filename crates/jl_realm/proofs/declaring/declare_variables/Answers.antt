@@ -2,7 +2,7 @@ use Rattle.std.proofs.Common.{◌∙◌, subst, sym}
 use Rattle.jl_ast.specs.View.{view_body}
 use Rattle.jl_meaning.specs.DeclarationBinding.{declare_global_variables}
 use Rattle.jl_store.specs.Answers.{ends_with}
-use Rattle.jl_store.specs.Comes.{Comes}
+use Rattle.jl_store.specs.BigStep.{BigStep}
 use Rattle.jl_scope.proofs.Places.{variables_same}
 use Rattle.jl_realm.proofs.Faults.{variables_without_fault}
 use Rattle.jl_realm.proofs.declaring.declare_variables.Goals as goal
@@ -14,7 +14,7 @@ pub returns : goal.returns
 returns c =
     let s = c.args.store.now in
     let t = c.declare_global_variables.new.self in
-    subst (λ xs. Comes (declare_global_variables xs) s t (ends_with c.without_fault.result))
+    subst (λ xs. BigStep (declare_global_variables xs) s t (ends_with c.without_fault.result))
     (c.as_slice.ensures.value ∙ c.in_ok-names.ensures ∙ sym (variables_same (λ _. 0) (view_body c.args.body.now)))
-    (subst (λ e. Comes (declare_global_variables c.as_slice.result.now) s t e) (sym c.without_fault.ensures)
+    (subst (λ e. BigStep (declare_global_variables c.as_slice.result.now) s t e) (sym c.without_fault.ensures)
     c.in_ok-end.ensures)

@@ -6,7 +6,7 @@ use Rattle.jl_meaning.specs.Defining.{define_with_number}
 use Rattle.jl_meaning.specs.Intrinsics.{global_object}
 use Rattle.jl_meaning.specs.Parts.{gives}
 use Rattle.jl_meaning.specs.Properties.{can_put, get_property}
-use Rattle.jl_store.specs.Comes.{Comes}
+use Rattle.jl_store.specs.BigStep.{BigStep}
 use Rattle.jl_realm.specs.Global.{put_change}
 use Rattle.jl_realm.proofs.GlobalSteps.{put_done}
 use Rattle.jl_realm.proofs.declaring.put_on_global.Goals as goal
@@ -21,5 +21,5 @@ returns c =
     IfOk-weaker _ _ _ (λ done is.
     put_done s c.define_with_number.new.self x c.args.v (Ends (gives done)) c.requires.global c.requires.no_accessor can
     (subst (λ change.
-    Comes (define_with_number global_object x change) s c.define_with_number.new.self (Ends (gives done)))
+    BigStep (define_with_number global_object x change) s c.define_with_number.new.self (Ends (gives done)))
     (c.put_change-change.ensures ∙ ap (put_change c.args.v) found) is)) c.define_with_number.ensures

@@ -14,6 +14,7 @@ use Rattle.jl_ast.proofs.Views.{statement_For, statement_ForIn, statement_Switch
 use Rattle.jl_ast.proofs.Parts.{then_part, last_part, no_last_part, branch_there, below_for}
 use Rattle.jl_realm.proofs.Walks.{caught_there, caught_absent}
 use Rattle.jl_realm.proofs.function_walk.+functions.Goals as goal
+use Rattle.jl_realm.proofs.function_walk.+functions.Goals.{}
 use Rattle.jl_realm.proofs.function_walk.+functions.Goals.{add_statement-in-Some-catch+in_ok-add_statements-in-Some-catch}
 use Rattle.jl_realm.proofs.function_walk.+functions.Goals.{add_statement-in-None-catch}
 

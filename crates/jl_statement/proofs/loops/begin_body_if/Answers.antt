@@ -2,11 +2,11 @@ use Rattle.jl_statement.proofs.Results.{if_ok}
 use Rattle.jl_statement.proofs.Turning.{tested_body, tested_end}
 use Rattle.jl_statement.proofs.loops.begin_body_if.Goals as goal
 
-pub returns-then-not-to_boolean-clause-leads : goal.returns-then-not-to_boolean-clause-leads
-returns-then-not-to_boolean-clause-leads c = tested_end _ _ _ c.if-not-to_boolean.ensures
+pub returns-then-not-to_boolean-clause-refines : goal.returns-then-not-to_boolean-clause-refines
+returns-then-not-to_boolean-clause-refines c = tested_end _ _ _ c.if-not-to_boolean.ensures
 
-pub returns-clause-leads : goal.returns-clause-leads
-returns-clause-leads c =
-    if_ok _ _ _ c.begin_body.ensures.leads
-    (λ a leads. tested_body c.args.state.now c.args.turn c.args.v _ _ c.if-not-to_boolean.ensures c.requires.first
-    leads)
+pub returns-clause-refines : goal.returns-clause-refines
+returns-clause-refines c =
+    if_ok _ _ _ c.begin_body.ensures.refines
+    (λ a refines. tested_body c.args.state.now c.args.turn c.args.v _ _ c.if-not-to_boolean.ensures c.requires.first
+    refines)

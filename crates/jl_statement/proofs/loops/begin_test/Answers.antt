@@ -2,8 +2,9 @@ use Rattle.jl_state.specs.declared.statement_frame.StatementFrame.TheVariants as
 use Rattle.jl_state.proofs.Leaves.{resumes_supplied_statement}
 use Rattle.jl_statement.proofs.loops.begin_test.Goals as goal
 
-pub returns-in-Some-clause-leads : goal.returns-in-Some-clause-leads
-returns-in-Some-clause-leads c =
+pub returns-in-Some-clause-refines : goal.returns-in-Some-clause-refines
+returns-in-Some-clause-refines c =
     resumes_supplied_statement c.args.state.now _ c.take_step.ensures.left _ _
-    ((rw c.in-Some.is at c.in_ok-found.ensures.supplies) _ c.take_step.ensures.took c.take_step.ensures.left)
-    (statement.Test c.args.turn) _ _ c.begin_body_if.ensures.leads
+    (rw c.get.ensures at ((rw c.in-Some.is at c.in_ok-found.ensures.supplies) _ c.take_step.ensures.took
+    c.take_step.ensures.left))
+    (statement.Test c.args.turn) _ _ c.begin_body_if.ensures.refines

@@ -2,8 +2,8 @@ use Rattle.jl_state.specs.declared.statement_frame.StatementFrame.TheVariants as
 use Rattle.jl_state.proofs.Leaves.{resumes_supplied_statement}
 use Rattle.jl_statement.proofs.switches.begin_switch.Goals as goal
 
-pub returns-in-Some-clause-leads : goal.returns-in-Some-clause-leads
-returns-in-Some-clause-leads c =
+pub returns-in-Some-clause-refines : goal.returns-in-Some-clause-refines
+returns-in-Some-clause-refines c =
     resumes_supplied_statement c.args.state.now _ c.take_step.ensures.left _ _
     ((rw c.in-Some.is at c.in_ok-found.ensures.supplies) _ c.take_step.ensures.took c.take_step.ensures.left)
-    (statement.Switch c.args.cases c.args.here) _ _ c.step_switch.ensures.leads
+    (statement.Switch c.args.cases c.args.here) _ _ c.step_switch.ensures.refines

@@ -3,7 +3,7 @@ use Rattle.jl_statement.proofs.Results.{if_ok}
 use Rattle.jl_statement.proofs.Trying.{catch_over}
 use Rattle.jl_statement.proofs.tries.begin_catch.Goals as goal
 
-pub returns-clause-leads : goal.returns-clause-leads
-returns-clause-leads c =
-    if_ok _ _ _ c.enter_catch.ensures.leads (λ a leads. catch_over _ _ (Some c.args.handler.now) c.args.finally
-    c.args.thrown c.args.here _ _ c.in_ok-push_completion.ensures.pushed leads)
+pub returns-clause-refines : goal.returns-clause-refines
+returns-clause-refines c =
+    if_ok _ _ _ c.enter_catch.ensures.refines (λ a refines. catch_over _ _ (Some c.args.handler.now) c.args.finally
+    c.args.thrown c.args.here _ _ c.in_ok-push_completion.ensures.pushed refines)

@@ -3,7 +3,7 @@ use Rattle.jl_statement.proofs.Declaring.{declares}
 use Rattle.jl_statement.proofs.Results.{if_ok}
 use Rattle.jl_statement.proofs.variables.declare_variables.Goals as goal
 
-pub returns-in_ok-push_statement-in-Some-clause-leads : goal.returns-in_ok-push_statement-in-Some-clause-leads
-returns-in_ok-push_statement-in-Some-clause-leads c =
-    if_ok _ _ _ c.assign_name.ensures.leads (λ a leads. declares _ _ _ c.args.here _ _ _ _ _ _ _ _
-    c.first_initialised.ensures.same c.in-Some.is c.in_ok-push_statement-in-Some.ensures.pushed (λ v. refl) leads)
+pub returns-in_ok-push_statement-in-Some-clause-refines : goal.returns-in_ok-push_statement-in-Some-clause-refines
+returns-in_ok-push_statement-in-Some-clause-refines c =
+    if_ok _ _ _ c.assign_name.ensures.refines (λ a refines. declares _ _ _ c.args.here _ _ _ _ _ _ _ _
+    c.first_initialised.ensures.same c.in-Some.is c.in_ok-push_statement-in-Some.ensures.pushed (λ v. refl) refines)

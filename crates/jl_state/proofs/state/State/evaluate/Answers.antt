@@ -1,5 +1,5 @@
 use Rattle.jl_state.proofs.Steps.{evaluates}
 use Rattle.jl_state.proofs.state.State.evaluate.Goals as goal
 
-pub returns-clause-leads : goal.returns-clause-leads
-returns-clause-leads c = evaluates _ _ _ _ _ c.in_ok-push_value.ensures.pushed
+pub returns-clause-refines : goal.returns-clause-refines
+returns-clause-refines c = evaluates _ _ _ _ _ c.in_ok-push_value.ensures.pushed

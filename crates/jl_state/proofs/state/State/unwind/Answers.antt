@@ -7,6 +7,6 @@ returns-clause-leaves c =
     unwinding_leaves c.args.self.now (record c.args.self.now { stack = c.unwind.new.self }) c.args.how.now
     c.unwind.result refl c.unwind.ensures
 
-pub returns-clause-falls : goal.returns-clause-falls
-returns-clause-falls c =
+pub returns-clause-bounded : goal.returns-clause-bounded
+returns-clause-bounded c =
     unwinding_falls c.args.how.now c.args.self.now.stack c.unwind.new.self c.unwind.result c.unwind.ensures

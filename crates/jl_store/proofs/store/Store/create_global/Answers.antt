@@ -2,7 +2,7 @@ use Rattle.std.proofs.Common.{subst, sym}
 use Rattle.std.specs.Prelude.{codes}
 use Rattle.jl_meaning.specs.Errors.{require}
 use Rattle.jl_store.specs.Answers.{finish_of}
-use Rattle.jl_store.specs.Comes.{Comes}
+use Rattle.jl_store.specs.BigStep.{BigStep}
 use Rattle.jl_store.proofs.GlobalNames.{global_done, global_failed, global_thrown}
 use Rattle.jl_store.proofs.store.Store.create_global.Goals as goal
 
@@ -10,7 +10,7 @@ pub returns-in_ok-require-in-Gives : goal.returns-in_ok-require-in-Gives
 returns-in_ok-require-in-Gives c =
     global_done c.args.name.now c.args.self.now c.define_own_property.new.self c.in_ok-done.field-0
     c.in_ok-done.ensures c.require.new.self c.in-Gives.done (finish_of c.finish.result) c.in-Gives.is
-    (subst (λ e. Comes (require c.in-Gives.done (codes "cannot define")) c.define_own_property.new.self
+    (subst (λ e. BigStep (require c.in-Gives.done (codes "cannot define")) c.define_own_property.new.self
     c.require.new.self e)
     (sym c.finish.ensures) c.in_ok-require-in-Gives.ensures)
 

@@ -8,17 +8,17 @@ use Rattle.jl_meaning.specs.Parts.{◌>>=◌, Answer, CallOf, Part}
 use Rattle.jl_meaning.specs.Putting.{put}
 use Rattle.jl_meaning.specs.forms.Members.{put_member}
 use Rattle.jl_state.specs.Words.{call_of}
-use Rattle.jl_state.specs.declared.frame.ToldFrame.{ToldFrame}
-use Rattle.jl_state.specs.declared.frame.ToldFrame.TheVariants as told
+use Rattle.jl_state.specs.declared.frame.EmitFrame.{EmitFrame}
+use Rattle.jl_state.specs.declared.frame.EmitFrame.TheVariants as told
 
-abbrev pub told_after : ToldFrame → Part (Answer Value)
-told_after (told.Put base x v strict given) = do
+abbrev pub emit_after : EmitFrame → Part (Answer Value)
+emit_after (told.Put base x v strict given) = do
   _ ← lift (put strict base x v)
   give given
-told_after (told.PutMember id base x v strict given) = do
+emit_after (told.PutMember id base x v strict given) = do
   _ ← put_member emits id.0 strict base x v
   give given
-told_after (told.Invoke id call) = do
+emit_after (told.Invoke id call) = do
   v ← begin_call CallOf (call_of call)
   _ ← note_value emits (id.pre + 1) (op.InvokePost call.callee) v
   give v

@@ -8,8 +8,8 @@ use Rattle.jl_heap.specs.declared.property.Prop.TheVariants.{Accessor, Plain}
 use Rattle.jl_meaning.specs.Properties.{Property}
 use Rattle.jl_meaning.specs.Putting.{put_if}
 use Rattle.jl_store.specs.LookUps.{is_data, setter_of}
-use Rattle.jl_algorithm.specs.declared.putting.Way.TheVariants.{Added, Called, Changed}
-use Rattle.jl_algorithm.specs.inner.Ways.{put_so, way_found, way_of}
+use Rattle.jl_algorithm.specs.declared.putting.PutPlan.TheVariants.{Added, Called, Changed}
+use Rattle.jl_algorithm.specs.inner.PutPlans.{put_by, way_found, plan_put}
 
 pub way_called : (own : Bool) (p : Prop) (setter : ObjId) → setter_of p ≡ Some setter
     → Called setter ≡ way_found (Some (own, p))
@@ -33,7 +33,7 @@ way_added own (Accessor _ (Some s) _ _) e f = absurd (let differ = e in cc)
 
 -- the put that is done so is the one of the language
 pub way_is : (can_put : Bool) (id : ObjId) (x : Name) (v : Value) (property : Option Property)
-    → put_if can_put id x v property ≡ put_so id x v (way_of can_put property)
+    → put_if can_put id x v property ≡ put_by id x v (plan_put can_put property)
 way_is false id x v property = refl
 way_is true id x v None = refl
 way_is true id x v (Some (true, Plain _ _ _ _)) = refl
