@@ -1,5 +1,5 @@
 ghost use Rattle.jl_grammar.specs.Words.{look_up, same_text, word_of};
-ghost use Rattle.std.specs.Prelude.{◌≡◌, map, is_some, true};
+ghost use Rattle.std.specs.Prelude.{◌≡◌, ◌∷◌, ℕ, List, map, is_some, true};
 
 use jl_text::is_spelled;
 
@@ -80,45 +80,6 @@ pub enum Word {
     False,
 }
 
-const WORDS: [(&[u8], Word); 36] = [
-    (b"break", Word::Break),
-    (b"do", Word::Do),
-    (b"instanceof", Word::InstanceOf),
-    (b"typeof", Word::Typeof),
-    (b"case", Word::Case),
-    (b"else", Word::Else),
-    (b"new", Word::New),
-    (b"var", Word::Var),
-    (b"catch", Word::Catch),
-    (b"finally", Word::Finally),
-    (b"return", Word::Return),
-    (b"void", Word::Void),
-    (b"continue", Word::Continue),
-    (b"for", Word::For),
-    (b"switch", Word::Switch),
-    (b"while", Word::While),
-    (b"debugger", Word::Debugger),
-    (b"function", Word::Function),
-    (b"this", Word::This),
-    (b"with", Word::With),
-    (b"default", Word::Default),
-    (b"if", Word::If),
-    (b"throw", Word::Throw),
-    (b"delete", Word::Delete),
-    (b"in", Word::In),
-    (b"try", Word::Try),
-    (b"class", Word::Class),
-    (b"const", Word::Const),
-    (b"enum", Word::Enum),
-    (b"export", Word::Export),
-    (b"extends", Word::Extends),
-    (b"import", Word::Import),
-    (b"super", Word::Super),
-    (b"null", Word::Null),
-    (b"true", Word::True),
-    (b"false", Word::False),
-];
-
 /// Whether the units are these ASCII characters.
 #[tactic(auto, using(crate::proofs::Spelled::spelled))]
 pub fn has_spelling(units: &[u16], spelling: &[u8]) -> bool
@@ -139,11 +100,68 @@ fn find(mut table: &[(&[u8], Word)], units: &[u16]) -> Option<Word>
     None
 }
 
+// The reserved words that begin with this unit.
+fn words_from(unit: u16) -> &'static [(&'static [u8], Word)]
+    ensures { (rest : List ℕ)
+        → look_up (map (λ entry. (entry.0.now, entry.1)) result.now) (unit ∷ rest) ≡ word_of (unit ∷ rest) }
+{
+    match u8::try_from(unit) {
+        Ok(b'b') => &[(b"break", Word::Break)],
+        Ok(b'c') => &[
+            (b"case", Word::Case),
+            (b"catch", Word::Catch),
+            (b"continue", Word::Continue),
+            (b"class", Word::Class),
+            (b"const", Word::Const),
+        ],
+        Ok(b'd') => &[
+            (b"do", Word::Do),
+            (b"debugger", Word::Debugger),
+            (b"default", Word::Default),
+            (b"delete", Word::Delete),
+        ],
+        Ok(b'e') => &[
+            (b"else", Word::Else),
+            (b"enum", Word::Enum),
+            (b"export", Word::Export),
+            (b"extends", Word::Extends),
+        ],
+        Ok(b'f') => &[
+            (b"finally", Word::Finally),
+            (b"for", Word::For),
+            (b"function", Word::Function),
+            (b"false", Word::False),
+        ],
+        Ok(b'i') => &[
+            (b"instanceof", Word::InstanceOf),
+            (b"if", Word::If),
+            (b"in", Word::In),
+            (b"import", Word::Import),
+        ],
+        Ok(b'n') => &[(b"new", Word::New), (b"null", Word::Null)],
+        Ok(b'r') => &[(b"return", Word::Return)],
+        Ok(b's') => &[(b"switch", Word::Switch), (b"super", Word::Super)],
+        Ok(b't') => &[
+            (b"typeof", Word::Typeof),
+            (b"this", Word::This),
+            (b"throw", Word::Throw),
+            (b"try", Word::Try),
+            (b"true", Word::True),
+        ],
+        Ok(b'v') => &[(b"var", Word::Var), (b"void", Word::Void)],
+        Ok(b'w') => &[(b"while", Word::While), (b"with", Word::With)],
+        _ => &[],
+    }
+}
+
 /// The reserved word (7.6.1) with these UTF-16 units, if there is one.
 pub fn reserved_word(units: &[u16]) -> Option<Word>
     ensures { result ≡ word_of units.now }
 {
-    find(&WORDS, units)
+    let [first, ..] = units else {
+        return None;
+    };
+    find(words_from(*first), units)
 }
 
 /// Whether these UTF-16 units are a reserved word (7.6.1): neither the name of a variable nor a label may have them.

@@ -1,3 +1,4 @@
 pub mod Amounts
 pub mod Answers
+pub mod Ascii
 pub mod Parts

@@ -4,6 +4,7 @@ ghost use Rattle.jl_token.specs.inner.Scanner.{after_line_feed};
 ghost use Rattle.jl_token.specs.Characters.{category, is_space, is_letter, is_mark, is_white_space, is_line_terminator};
 ghost use Rattle.jl_token.specs.Characters.{is_identifier_start, is_identifier_part, is_digit, is_hex_digit};
 ghost use Rattle.jl_token.specs.Characters.{hex_digit_value, is_quote, first_is};
+ghost use Rattle.jl_lex.specs.inner.Ascii.{is_ascii_letter, is_ascii_start, is_ascii_part, is_ascii_space};
 
 use unicode::properties::GeneralCategory;
 
@@ -57,11 +58,41 @@ fn is_space(category: GeneralCategory) -> bool
     matches!(category, GeneralCategory::SpaceSeparator)
 }
 
+// ASCII characters, for which no table is looked into.
+const ASCII: u16 = 128;
+
+fn is_ascii_letter(unit: u16) -> bool
+    ensures { result ≡ is_ascii_letter unit }
+{
+    (97 <= unit && unit <= 122) || (65 <= unit && unit <= 90)
+}
+
+fn is_ascii_start(unit: u16) -> bool
+    ensures { result ≡ is_ascii_start unit }
+{
+    is_ascii_letter(unit) || unit == 0x24 || unit == 0x5f
+}
+
+fn is_ascii_part(unit: u16) -> bool
+    ensures { result ≡ is_ascii_part unit }
+{
+    is_ascii_start(unit) || (48 <= unit && unit <= 57)
+}
+
+fn is_ascii_space(unit: u16) -> bool
+    ensures { result ≡ is_ascii_space unit }
+{
+    unit == 0x20 || unit == 0x9 || unit == 0xb || unit == 0xc
+}
+
 /// White space (7.2).
 #[tactic(auto, unfolding(jl_token::specs::Characters::is_white_space))]
 pub fn is_white_space(unit: u16) -> bool
     ensures { result ≡ is_white_space unit }
 {
+    if unit < ASCII {
+        return is_ascii_space(unit);
+    }
     unit == 0x9
         || unit == 0xb
         || unit == 0xc
@@ -84,14 +115,20 @@ pub fn is_line_terminator(unit: u16) -> bool
 pub fn is_identifier_start(unit: u16) -> bool
     ensures { result ≡ is_identifier_start unit }
 {
+    if unit < ASCII {
+        return is_ascii_start(unit);
+    }
     unit == 0x24 || unit == 0x5f || is_letter(category(unit))
 }
 
 /// A character that a name may go on with (7.6).
-#[tactic(auto, unfolding(jl_token::specs::Characters::is_identifier_part))]
+#[tactic(auto, using(crate::proofs::Ascii::ascii_parts), unfolding(jl_token::specs::Characters::is_identifier_part))]
 pub fn is_identifier_part(unit: u16) -> bool
     ensures { result ≡ is_identifier_part unit }
 {
+    if unit < ASCII {
+        return is_ascii_part(unit);
+    }
     is_identifier_start(unit) || unit == 0x200c || unit == 0x200d || is_mark(category(unit))
 }
 

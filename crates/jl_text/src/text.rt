@@ -1,4 +1,5 @@
-ghost use Rattle.std.specs.Prelude.{◌≡◌, ◌≤◌, ◌<◌, ◌↔◌, ◌++◌, length, slice_range, IfOk, IsErrOf};
+ghost use Rattle.std.specs.Prelude.{◌≡◌, ◌+◌, ◌≤◌, ◌<◌, ◌↔◌, ◌++◌, length, slice_range, IfOk, IsErrOf};
+ghost use Rattle.jl_text.specs.inner.Held.{units_held, IsKept};
 ghost use Rattle.std.specs.Cmp.Lexicographic.{slice_cmp};
 ghost use Rattle.std.specs.Ordering.{nat_cmp};
 ghost use Rattle.std.specs.Cmp;
@@ -20,21 +21,38 @@ use thiserror::Error;
 /// The greatest number of UTF-16 units in a `Text`.
 pub const MOST_UNITS: usize = 1_048_576;
 
+/// The most units that lie beside the count of a text's owners, and take no list of their own.
+pub(crate) const FEW: usize = 11;
+
+/// The first `count` of these units.
+#[derive(Drop)]
+struct FewUnits {
+    count: u8,
+    units: [u16; FEW],
+}
+
+/// Where the units of a text lie.
+#[derive(Drop)]
+enum Units {
+    Few(FewUnits),
+    Many(Vec<u16>),
+}
+
 /// A shared list of at most `MOST_UNITS` UTF-16 units. Contracts see it as that list.
 #[derive(Drop)]
 pub struct Text {
-    units: Rc<Vec<u16>>,
+    units: Rc<Units>,
 }
 
 impl Model for Text {
-    ghost use Rattle.std.specs.Prelude.{List, ℕ, length, ◌≤◌};
-    ghost use Rattle.jl_text.specs.Limits.{most_units};
+    ghost use Rattle.std.specs.Prelude.{List, ℕ};
+    ghost use Rattle.jl_text.specs.inner.Held.{units_held, IsKept};
 
     ghost Value = { List ℕ };
 
-    ghost view = { λ t. t.units.value.items };
+    ghost view = { λ t. units_held t.units.value };
 
-    ghost invariant = { λ t. length t.units.value.items ≤ most_units };
+    ghost invariant = { λ t. IsKept t.units.value };
 }
 
 /// Why no text was made.
@@ -73,10 +91,7 @@ impl Text {
         if units.len() > MOST_UNITS {
             return Err(TextFault::TooLong);
         }
-        let units = Vec::from_slice(alloc, units)?;
-        Ok(Text {
-            units: Rc::new(alloc, units)?,
-        })
+        Ok(of_units(alloc, units)?)
     }
 
     /// The units of `a` and then those of `b`, if they are no more than `MOST_UNITS` together.
@@ -89,12 +104,13 @@ impl Text {
         if front.len() + back.len() > MOST_UNITS {
             return Err(TextFault::TooLong);
         }
+        if front.len() + back.len() <= FEW {
+            return Ok(few_of_both(alloc, front, back)?);
+        }
         let mut units = Vec::with_capacity(alloc, front.len() + back.len())?;
         units.extend_from_slice(front)?;
         units.extend_from_slice(back)?;
-        Ok(Text {
-            units: Rc::new(alloc, units)?,
-        })
+        Ok(shared(alloc, Units::Many(units))?)
     }
 
     /// The units, at most `MOST_UNITS`.
@@ -102,7 +118,10 @@ impl Text {
         ensures same { result.now ≡ self.now }
         ensures short { length self.now ≤ most_units }
     {
-        self.units.as_slice()
+        match &*self.units {
+            Units::Few(few) => &few.units[..usize::from(few.count)],
+            Units::Many(units) => units.as_slice(),
+        }
     }
 
     /// The same text. It takes no memory for units but where no further owner of them can be counted: there they are
@@ -113,10 +132,7 @@ impl Text {
         if let Ok(units) = self.units.clone() {
             return Ok(Text { units });
         }
-        let units = Vec::from_slice(alloc, self.units.as_slice())?;
-        Ok(Text {
-            units: Rc::new(alloc, units)?,
-        })
+        of_units(alloc, self.units())
     }
 
     /// The units from the place `from` to the one before `to`.
@@ -125,10 +141,7 @@ impl Text {
         requires within { to ≤ length self.now }
         ensures { IfOk result (λ t. t ≡ slice_range self.now from to) }
     {
-        let units = Vec::from_slice(alloc, &self.units()[from..to])?;
-        Ok(Text {
-            units: Rc::new(alloc, units)?,
-        })
+        of_units(alloc, &self.units()[from..to])
     }
 
     /// The least place at or after `from` at which `part` stands, in time linear in both lengths and in no memory.
@@ -154,6 +167,51 @@ impl Text {
     {
         a.units().cmp(&b.units())
     }
+}
+
+/// The text of these units.
+fn of_units(alloc: Global, units: &[u16]) -> Result<Text, AllocError>
+    requires { length units.now ≤ most_units }
+    ensures { IfOk result (λ t. t ≡ units.now) }
+{
+    if units.len() <= FEW {
+        return few(alloc, units);
+    }
+    let units = Vec::from_slice(alloc, units)?;
+    shared(alloc, Units::Many(units))
+}
+
+/// The text of few units.
+pub(crate) fn few(alloc: Global, units: &[u16]) -> Result<Text, AllocError>
+    requires { length units.now ≤ 11 }
+    ensures { IfOk result (λ t. t ≡ units.now) }
+{
+    let mut all = [0; FEW];
+    all[..units.len()].copy_from_slice(units);
+    let count = units.len() as u8;
+    shared(alloc, Units::Few(FewUnits { count, units: all }))
+}
+
+/// The text of the units of both lists, few together.
+fn few_of_both(alloc: Global, front: &[u16], back: &[u16]) -> Result<Text, AllocError>
+    requires { length front.now + length back.now ≤ 11 }
+    ensures { IfOk result (λ t. t ≡ front.now ++ back.now) }
+{
+    let count = front.len() + back.len();
+    let mut all = [0; FEW];
+    all[..front.len()].copy_from_slice(front);
+    all[front.len()..count].copy_from_slice(back);
+    let count = count as u8;
+    shared(alloc, Units::Few(FewUnits { count, units: all }))
+}
+
+/// The text of units that it shares with its copies.
+fn shared(alloc: Global, units: Units) -> Result<Text, AllocError>
+    requires { IsKept units }
+    ensures { IfOk result (λ t. t ≡ units_held units) }
+{
+    let units = Rc::new(alloc, units)?;
+    Ok(Text { units })
 }
 
 /// Texts are equal where they have the same units.
