@@ -117,7 +117,7 @@ class Judge:
 def many_names(judge):
     """One object of many names."""
     for title, costs, limit, calls in (("instructions", Costs(instructions, 1), INSTRUCTIONS, 100000),
-                                       ("microseconds", Costs(user_time, 5), TIMES, 2000000)):
+                                       ("microseconds", Costs(user_time, 5), TIMES, 8000000)):
         print(f"\n{title} a call, one object of so many names\n{'':8}" + "".join(f"{it:>11}" for it in COUNTS)
               + "  growth")
         growths = {}
